@@ -1,3 +1,5 @@
 pub mod Finding
 pub mod Radix
 pub mod Asking
+pub mod Rules
+pub mod Order
