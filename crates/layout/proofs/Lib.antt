@@ -3,3 +3,4 @@ pub mod Radix
 pub mod Asking
 pub mod Rules
 pub mod Order
+pub mod Sameness
