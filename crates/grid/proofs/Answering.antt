@@ -128,10 +128,10 @@ module _ (g : GridShape) (ok : sound g ≡ true) (four : length (g .lengths) ≡
       let levels = subst (λ k. OfKind k l) d (grid-valid g ok .of-kind) .2 in
       let same = inside-says (rank l) (grid-shape g) x (q .0) (q .3) .0 in
       sym (strict-absent l x (λ p e′ k k< a.
-        let pq : q .0 ≡ p = some-same (q .0) p (sym same ∙ e′) in
-        let lv : Level (rank l) (q .0) = rw (a ∙ sym pq) at (all-getD (Level (rank l)) (l .places) k origin k< levels) in
-        let lw : Level (g .rank) (q .0) = subst (λ r. Level r (q .0)) (rank-is g ok four) lv in
-        v (subst (λ t. Level (g .rank) (entries-place t)) (sym (q .1)) lw)))
+      let pq : q .0 ≡ p = some-same (q .0) p (sym same ∙ e′) in
+      let lv : Level (rank l) (q .0) = rw (a ∙ sym pq) at (all-getD (Level (rank l)) (l .places) k origin k< levels) in
+      let lw : Level (g .rank) (q .0) = subst (λ r. Level r (q .0)) (rank-is g ok four) lv in
+      v (subst (λ t. Level (g .rank) (entries-place t)) (sym (q .1)) lw)))
 
   -- the entries are small
   pub got-small : (e : List ℕ) → Some e ≡ mapped entries (inside (g .rank) n x) → (i : ℕ) → getD e i 0 < 4096

@@ -108,10 +108,12 @@ module _ (s : List ℕ) (few : length s ≤ 4) (h : axes-in-range s ≡ true) (s
 
   along-inside : (k : ℕ) → k < axis s 0 → Inside s (along (length s) k)
   along-inside k l =
-      let e = level-says (length s) s q in
-      ( l, here-below (length s) 1 k (axis s 1) (axis s 0) l (pos-on 1 (omega arith)) (e .0)
-      , here-below (length s) 2 k (axis s 2) (axis s 0) l (pos-on 2 (omega arith)) (e .1)
-      , here-below (length s) 3 k (axis s 3) (axis s 0) l (pos-on 3 (omega arith)) (e .2))
+      let e = level-says (length s) s q in (
+        l,
+        here-below (length s) 1 k (axis s 1) (axis s 0) l (pos-on 1 (omega arith)) (e .0),
+        here-below (length s) 2 k (axis s 2) (axis s 0) l (pos-on 2 (omega arith)) (e .1),
+        here-below (length s) 3 k (axis s 3) (axis s 0) l (pos-on 3 (omega arith)) (e .2),
+      )
 
   diagonal-at : (k : ℕ) → k < axis s 0 → getD (diagonal (length s) (axis s 0)) k origin ≡ along (length s) k
   diagonal-at k l = getD-map-counting (along (length s)) 0 (axis s 0) k k origin l (omega arith)
@@ -130,10 +132,12 @@ module _ (s : List ℕ) (few : length s ≤ 4) (h : axes-in-range s ≡ true) (s
         many = rw n (omega arith);
         inside = all-from-getD (Inside s) (diagonal (length s) (axis s 0)) origin (λ k l. let l′ : k < axis s 0 = rw n at l in rw (diagonal-at k l′) (along-inside k l′));
         ascending = λ j k l l′. let b : k < axis s 0 = rw n at l′ in rw (diagonal-at j (omega arith), diagonal-at k b) (inl l);
-        of-kind =
-          ( some, level-at s few q
-          , all-from-getD (Level (length s)) (diagonal (length s) (axis s 0)) origin (λ k l. let l′ : k < axis s 0 = rw n at l in rw (diagonal-at k l′) (here-level (length s) 1 k, here-level (length s) 2 k, here-level (length s) 3 k))
-          , λ p i v. (p .a, rw n (i .0), λ d. getD-map-counting (along (length s)) 0 (axis s 0) (p .a) (p .a) d (i .0) (omega arith) ∙ along-is s p i v));
+        of-kind = (
+          some,
+          level-at s few q,
+          all-from-getD (Level (length s)) (diagonal (length s) (axis s 0)) origin (λ k l. let l′ : k < axis s 0 = rw n at l in rw (diagonal-at k l′) (here-level (length s) 1 k, here-level (length s) 2 k, here-level (length s) 3 k)),
+          λ p i v. (p .a, rw n (i .0), λ d. getD-map-counting (along (length s)) 0 (axis s 0) (p .a) (p .a) d (i .0) (omega arith) ∙ along-is s p i v),
+        );
       }
 
 few-axes : (g : GridShape) → g .rank ≤ 4 → length (grid-shape g) ≤ 4

@@ -31,7 +31,10 @@ impl Grid {
         ensures { λ r. ⌜ Cases r (λ g. (g .shapes ≡ shapes) × (g .count ≡ count)) (λ f. First-fault shapes count f) ⌝ }
     {
         if count > 16 {
-            return Err(LayoutFault::Faulty { record: 16, rule: Rule::Room });
+            return Err(LayoutFault::Faulty {
+                record: 16,
+                rule: Rule::Room,
+            });
         }
         for k in 0..count {
             if let Some(rule) = broken_rule(shapes[k]) {

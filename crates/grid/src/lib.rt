@@ -1,5 +1,4 @@
 //! A catalogue of dense and diagonal layouts that keeps their shapes and works the places out.
 pub mod grid;
 pub mod shapes;
-pub mod starred;
 pub mod works;

@@ -14,12 +14,12 @@ ghost use Rattle.layout.specs.Radix.{size, ravel, unravel, along};
 ghost use Rattle.layout.specs.Rules.{in-range, axes-in-range, equal-axes, first-broken};
 ghost use Rattle.layout.specs.declared.kind.LayoutKind.the-variants.{Dense, Diagonal};
 ghost use Rattle.grid.specs.Grids.{grid-shape, grid-layout, sound, broken, tests};
+use crate::shapes::GridShape;
 use layout::fault::Rule;
 use layout::index::Index;
 use layout::index::entries_inside;
 use layout::kind::LayoutKind;
 use layout::shape::Shape;
-use crate::shapes::GridShape;
 
 fn axis_length(g: GridShape, i: usize) -> usize
     requires { ⌜ i < 4 ⌝ }
@@ -32,7 +32,12 @@ fn axis_length(g: GridShape, i: usize) -> usize
 pub fn padded(g: GridShape) -> [usize; 4]
     ensures { λ r. ⌜ r ≡ axis (grid-shape g) 0 ∷ axis (grid-shape g) 1 ∷ axis (grid-shape g) 2 ∷ axis (grid-shape g) 3 ∷ [] ⌝ }
 {
-    [axis_length(g, 0), axis_length(g, 1), axis_length(g, 2), axis_length(g, 3)]
+    [
+        axis_length(g, 0),
+        axis_length(g, 1),
+        axis_length(g, 2),
+        axis_length(g, 3),
+    ]
 }
 
 // How many indices are inside a shape.
@@ -96,7 +101,11 @@ fn broken_dense(g: GridShape) -> Option<Rule>
     if !axes_in_range(n) {
         return Some(Rule::Length);
     }
-    if product(n) > 65536 { Some(Rule::Count) } else { None }
+    if product(n) > 65536 {
+        Some(Rule::Count)
+    } else {
+        None
+    }
 }
 
 fn broken_diagonal(g: GridShape) -> Option<Rule>
@@ -109,7 +118,11 @@ fn broken_diagonal(g: GridShape) -> Option<Rule>
     if !axes_in_range(n) {
         return Some(Rule::Length);
     }
-    if axes_equal(g.rank, n) { None } else { Some(Rule::Axes) }
+    if axes_equal(g.rank, n) {
+        None
+    } else {
+        Some(Rule::Axes)
+    }
 }
 
 /// The first rule that a shape breaks.
@@ -124,7 +137,7 @@ pub fn broken_rule(g: GridShape) -> Option<Rule>
 }
 
 // How many places a shape's layout has.
-pub fn count_of(g: GridShape) -> usize
+fn count_of(g: GridShape) -> usize
     requires { ⌜ sound g ≡ true ⌝ }
     ensures { λ r. ⌜ r ≡ places-count (grid-layout g) ⌝ }
 {
@@ -202,7 +215,11 @@ pub fn number_answer(g: GridShape, index: Index) -> Option<usize>
         None => None,
         Some(e) => match g.kind {
             LayoutKind::Dense => Some(ravelled(n, e)),
-            LayoutKind::Diagonal => if entries_level(g.rank, e) { Some(e[0]) } else { None },
+            LayoutKind::Diagonal => if entries_level(g.rank, e) {
+                Some(e[0])
+            } else {
+                None
+            },
             LayoutKind::Sparse => None,
         },
     }

@@ -65,8 +65,8 @@ some-same x y e = cc
 below-says : (n : ℕ) (x : ℤ) (k : ℕ) → below n x ≡ Some k → (natural x ≡ Some k) × (k < n)
 below-says n (pos m) k e =
     elim (cases-bool (ltb m n)) [
-      inl t ↦ (let f : _≡_ {A = Option ℕ} (Some m) (Some k) = rw t at e in let g = some-same m k f in (f, omega (arith, ltb-true m n t)))
-    | inr t ↦ absurd (none-some k (rw t at e))
+      | inl t ↦ (let f : _≡_ {A = Option ℕ} (Some m) (Some k) = rw t at e in let g = some-same m k f in (f, omega (arith, ltb-true m n t)))
+      | inr t ↦ absurd (none-some k (rw t at e))
     ]
 below-says n (negsuc m) k e = absurd (none-some k e)
 

@@ -24,26 +24,29 @@ quotients w j k p h =
     let r = mod-below j w p in
     let s = mod-below k w p in
     elim (cases-order (j / w) (k / w)) [
-      inl e ↦ inr (e, let f = ap (λ q. q * w) e in omega arith)
-    | inr o ↦ elim o [ inl l ↦ inl l | inr g ↦ absurd (let m : (k / w + 1) * w ≤ j / w * w = mul-le-mul-right w (omega arith) in omega (arith, add-mul (k / w) 1 w)) ]
+      | inl e ↦ inr (e, let f = ap (λ q. q * w) e in omega arith)
+      | inr o ↦ elim o [ inl l ↦ inl l | inr g ↦ absurd (let m : (k / w + 1) * w ≤ j / w * w = mul-le-mul-right w (omega arith) in omega (arith, add-mul (k / w) 1 w)) ]
     ]
 
 module _ (s : List ℕ) (p1 : 0 < axis s 1) (p2 : 0 < axis s 2) (p3 : 0 < axis s 3) where
   pub unravel-inside : (k : ℕ) → k < size s → Inside s (unravel s k)
-  unravel-inside k h =
-      ( div-below (k / axis s 3 / axis s 2) (axis s 1) (axis s 0) p1 (div-below (k / axis s 3) (axis s 2) (axis s 0 * axis s 1) p2 (div-below k (axis s 3) (axis s 0 * axis s 1 * axis s 2) p3 h))
-      , mod-below (k / axis s 3 / axis s 2) (axis s 1) p1, mod-below (k / axis s 3) (axis s 2) p2, mod-below k (axis s 3) p3)
+  unravel-inside k h = (
+    div-below (k / axis s 3 / axis s 2) (axis s 1) (axis s 0) p1 (div-below (k / axis s 3) (axis s 2) (axis s 0 * axis s 1) p2 (div-below k (axis s 3) (axis s 0 * axis s 1 * axis s 2) p3 h)),
+    mod-below (k / axis s 3 / axis s 2) (axis s 1) p1,
+    mod-below (k / axis s 3) (axis s 2) p2,
+    mod-below k (axis s 3) p3,
+  )
 
   -- the digits of a smaller number come before
   pub unravel-before : (j k : ℕ) → j < k → Before (unravel s j) (unravel s k)
   unravel-before j k h =
       elim (quotients (axis s 3) j k p3 h) [
-        inr t ↦ (let e = t .0 in inr (ap (λ q. q / axis s 2 / axis s 1) e, inr (ap (λ q. q / axis s 2 % axis s 1) e, inr (ap (λ q. q % axis s 2) e, t .1))))
-      | inl u ↦ elim (quotients (axis s 2) (j / axis s 3) (k / axis s 3) p2 u) [
-          inr t ↦ (let e = t .0 in inr (ap (λ q. q / axis s 1) e, inr (ap (λ q. q % axis s 1) e, inl (t .1))))
-        | inl v ↦ elim (quotients (axis s 1) (j / axis s 3 / axis s 2) (k / axis s 3 / axis s 2) p1 v) [
-            inr t ↦ inr (t .0, inl (t .1))
-          | inl w ↦ inl w
+        | inr t ↦ (let e = t .0 in inr (ap (λ q. q / axis s 2 / axis s 1) e, inr (ap (λ q. q / axis s 2 % axis s 1) e, inr (ap (λ q. q % axis s 2) e, t .1))))
+        | inl u ↦ elim (quotients (axis s 2) (j / axis s 3) (k / axis s 3) p2 u) [
+          | inr t ↦ (let e = t .0 in inr (ap (λ q. q / axis s 1) e, inr (ap (λ q. q % axis s 1) e, inl (t .1))))
+          | inl v ↦ elim (quotients (axis s 1) (j / axis s 3 / axis s 2) (k / axis s 3 / axis s 2) p1 v) [
+            | inr t ↦ inr (t .0, inl (t .1))
+            | inl w ↦ inl w
           ]
         ]
       ]

@@ -66,6 +66,7 @@ module _ (ls : List Layout) (valid : AllValid ls) (a b : ℕ) (ha : a < length l
       let sa = shape-is ls a s es in
       let sb = shape-is ls b t et in
       let na : s .count ≡ count (getD ls a blank) = ap (λ (x : Shape). x .count) sa in
-      let nb : s .count ≡ count (getD ls b blank) = ap (λ (x : Shape). x .count) (e ∙ sb) in
-      ( (λ h. same-layout (getD ls a blank) (getD ls b blank) (valid a ha) (sym sa ∙ e ∙ sb) (λ k l. sym (place-is ls a k ha l) ∙ d .0 h k (omega arith) ∙ place-is ls b k hb (omega arith)))
-      , λ h. d .1 (λ k l. place-is ls a k ha (omega arith) ∙ ap (λ m. index-of (at m k)) h ∙ sym (place-is ls b k hb (omega arith))))
+      let nb : s .count ≡ count (getD ls b blank) = ap (λ (x : Shape). x .count) (e ∙ sb) in (
+        (λ h. same-layout (getD ls a blank) (getD ls b blank) (valid a ha) (sym sa ∙ e ∙ sb) (λ k l. sym (place-is ls a k ha l) ∙ d .0 h k (omega arith) ∙ place-is ls b k hb (omega arith))),
+        λ h. d .1 (λ k l. place-is ls a k ha (omega arith) ∙ ap (λ m. index-of (at m k)) h ∙ sym (place-is ls b k hb (omega arith))),
+      )

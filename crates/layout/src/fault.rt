@@ -59,6 +59,10 @@ impl LayoutFault {
             LayoutFault::Unknown => 0,
             LayoutFault::Faulty { record, rule: _ } => record,
         };
-        Report { number: 1, layer: Layer::Stage, place }
+        Report {
+            number: 1,
+            layer: Layer::Stage,
+            place,
+        }
     }
 }

@@ -30,13 +30,20 @@ fn widened_index(lengths: [usize; 4], index: Index) -> Index
 
 /// The number of an index, looked up wide: an entry above 0 on an axis of length 1 counts as 0,
 /// except in diagonal layouts.
-pub fn find_nnz_index<C: Catalogue>(c: &C, layout: usize, index: Index) -> Result<Option<usize>, LayoutFault>
+pub fn find_nnz_index<C: Catalogue>(
+    c: &C,
+    layout: usize,
+    index: Index,
+) -> Result<Option<usize>, LayoutFault>
     ensures { λ r. ⌜ r ≡ wide-asked (layouts (now (c .entry))) layout index ⌝ }
 {
     let shape = c.shape(layout)?;
     match shape.kind {
         LayoutKind::Diagonal => c.number(layout, index),
-        LayoutKind::Dense | LayoutKind::Sparse => c.number(layout, widened_index(shape.lengths, index)),
+        LayoutKind::Dense | LayoutKind::Sparse => c.number(
+            layout,
+            widened_index(shape.lengths, index),
+        ),
     }
 }
 

@@ -20,15 +20,16 @@ module _ (f : ℕ → Bool) where
   pub each-not : (n k : ℕ) → k < n → f k ≡ false → each-below n f ≡ false
   each-not zero k h e = absurd (omega arith)
   each-not (suc n) k h e = elim (cases-order k n) [
-        inl i ↦ last n (ap f (sym i) ∙ e)
-      | inr o ↦ elim o [ inl l ↦ front n (each-not n k l e) | inr l ↦ absurd (omega arith) ]
-      ]
+    | inl i ↦ last n (ap f (sym i) ∙ e)
+    | inr o ↦ elim o [ inl l ↦ front n (each-not n k l e) | inr l ↦ absurd (omega arith) ]
+  ]
     where
       last : (m : ℕ) → f m ≡ false → (each-below m f && f m) ≡ false
       last m i = rw i (by (each-below m f)) where
         by : (b : Bool) → (b && false) ≡ false
         by true = refl
         by false = refl
+
       front : (m : ℕ) → each-below m f ≡ false → (each-below m f && f m) ≡ false
       front m i = rw i refl
 

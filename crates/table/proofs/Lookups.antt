@@ -39,10 +39,10 @@ module _ (pool : List ℕ) (r : LayoutRecord) (ok : sparse-kept pool r ≡ true)
       let c = length-map-counting (record-place pool r) 0 (r .count) in
       let same = inside-says (rank l) (record-shape r) x (q .0) (q .2) .0 in
       sym (strict-absent l x (λ p e′ k k< a.
-        let k<′ : k < r .count = rw c at k< in
-        let pq : q .0 ≡ p = some-same (q .0) p (sym same ∙ e′) in
-        let b : record-place pool r k ≡ q .0 = sym (getD-map-counting (record-place pool r) 0 (r .count) k k origin k<′ (omega arith)) ∙ a ∙ sym pq in
-        f k k<′ (b ∙ ap place-of (sym (q .1)))))
+      let k<′ : k < r .count = rw c at k< in
+      let pq : q .0 ≡ p = some-same (q .0) p (sym same ∙ e′) in
+      let b : record-place pool r k ≡ q .0 = sym (getD-map-counting (record-place pool r) 0 (r .count) k k origin k<′ (omega arith)) ∙ a ∙ sym pq in
+      f k k<′ (b ∙ ap place-of (sym (q .1)))))
   search-some e (Some k) h f =
       let q = got e h in
       let l = sparse-layout pool r in

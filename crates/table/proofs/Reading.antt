@@ -24,14 +24,14 @@ module _ (pool : List ℕ) (r : LayoutRecord) (up : Ascending pool r) (p : Place
   below-mid l k h =
       let m : Before (record-place pool r mid) p = subst (λ x. Before x p) at-mid l in
       elim (cases-order k mid) [
-        inl i ↦ subst (λ j. Before (record-place pool r j) p) (sym i) m
-      | inr o ↦ elim o [ inl j ↦ before-trans _ _ _ (up k mid j in-row) m | inr j ↦ absurd (omega arith) ]
+        | inl i ↦ subst (λ j. Before (record-place pool r j) p) (sym i) m
+        | inr o ↦ elim o [ inl j ↦ before-trans _ _ _ (up k mid j in-row) m | inr j ↦ absurd (omega arith) ]
       ]
 
   pub above-mid : Before p (place-of q) → (k : ℕ) → mid ≤ k → k < r .count → Before p (record-place pool r k)
   above-mid l k h n =
       let m : Before p (record-place pool r mid) = subst (λ x. Before p x) at-mid l in
       elim (cases-order k mid) [
-        inl i ↦ subst (λ j. Before p (record-place pool r j)) (sym i) m
-      | inr o ↦ elim o [ inl j ↦ absurd (omega arith) | inr j ↦ before-trans _ _ _ m (up mid k j n) ]
+        | inl i ↦ subst (λ j. Before p (record-place pool r j)) (sym i) m
+        | inr o ↦ elim o [ inl j ↦ absurd (omega arith) | inr j ↦ before-trans _ _ _ m (up mid k j n) ]
       ]

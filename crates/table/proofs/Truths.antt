@@ -60,8 +60,8 @@ module _ (pool : List ℕ) (r : LayoutRecord) (h : sparse-kept pool r ≡ true) 
   ascends j (suc k) l m =
       let n : Before (record-place pool r k) (record-place pool r (suc k)) = rw add-one at (sparsely pool r h .next k (omega arith)) in
       elim (cases-order j k) [
-        inl e ↦ subst (λ i. Before (record-place pool r i) (record-place pool r (suc k))) (sym e) n
-      | inr o ↦ elim o [ inl i ↦ before-trans _ _ _ (ascends j k i (omega arith)) n | inr i ↦ absurd (omega arith) ]
+        | inl e ↦ subst (λ i. Before (record-place pool r i) (record-place pool r (suc k))) (sym e) n
+        | inr o ↦ elim o [ inl i ↦ before-trans _ _ _ (ascends j k i (omega arith)) n | inr i ↦ absurd (omega arith) ]
       ]
 
   pub entry-small : (k : ℕ) → k < r .count → (i : ℕ) → getD (entries (record-place pool r k)) i 0 < 65536

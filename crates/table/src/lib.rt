@@ -1,6 +1,6 @@
 //! A catalogue that reads its layouts from lent records and a lent pool of entries.
-pub mod read;
+mod read;
 pub mod record;
 pub mod rules;
-pub mod sparse;
+mod sparse;
 pub mod table;

@@ -31,7 +31,7 @@ fn sparse_number(pool: &[u16], r: LayoutRecord, index: Index) -> Option<usize>
 }
 
 /// The number of an index, looked up strictly.
-pub fn number_read(pool: &[u16], r: LayoutRecord, index: Index) -> Option<usize>
+pub(crate) fn number_read(pool: &[u16], r: LayoutRecord, index: Index) -> Option<usize>
     requires { ⌜ kept (now pool) r ≡ true ⌝ }
     ensures { λ o. ⌜ o ≡ strict (record-layout (now (pool .entry)) r) index ⌝ }
 {
@@ -46,11 +46,16 @@ fn sparse_shape(pool: &[u16], r: LayoutRecord) -> Shape
     ensures { λ s. ⌜ s ≡ shape-of (sparse-layout (now (pool .entry)) r) ⌝ }
 {
     let lengths = padded(grid_of(r));
-    Shape { kind: LayoutKind::Sparse, rank: r.rank, lengths, count: r.count }
+    Shape {
+        kind: LayoutKind::Sparse,
+        rank: r.rank,
+        lengths,
+        count: r.count,
+    }
 }
 
 /// The kind, rank, lengths and place count.
-pub fn shape_read(pool: &[u16], r: LayoutRecord) -> Shape
+pub(crate) fn shape_read(pool: &[u16], r: LayoutRecord) -> Shape
     requires { ⌜ kept (now pool) r ≡ true ⌝ }
     ensures { λ s. ⌜ s ≡ shape-of (record-layout (now (pool .entry)) r) ⌝ }
 {
@@ -79,7 +84,7 @@ fn sparse_place(pool: &[u16], r: LayoutRecord, number: usize) -> (Index, bool)
 }
 
 /// The place with a number, beside whether there is one.
-pub fn place_read(pool: &[u16], r: LayoutRecord, number: usize) -> (Index, bool)
+pub(crate) fn place_read(pool: &[u16], r: LayoutRecord, number: usize) -> (Index, bool)
     requires { ⌜ kept (now pool) r ≡ true ⌝ }
     ensures { λ o. ⌜ o ≡ cond (ltb number (places-count (record-layout (now (pool .entry)) r))) (index-of (at (record-layout (now (pool .entry)) r) number), true) (index-of origin, false) ⌝ }
 {

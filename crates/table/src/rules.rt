@@ -20,11 +20,15 @@ use layout::kind::LayoutKind;
 use std::cmp::Ordering;
 
 /// The shape of a record.
-pub fn grid_of(r: LayoutRecord) -> GridShape
+pub(crate) fn grid_of(r: LayoutRecord) -> GridShape
     ensures { λ g. ⌜ g ≡ grid-of r ⌝ }
 {
     let lengths = r.lengths;
-    GridShape { kind: r.kind, rank: r.rank, lengths }
+    GridShape {
+        kind: r.kind,
+        rank: r.rank,
+        lengths,
+    }
 }
 
 /// Whether the entries of a sparse layout are in the pool.
@@ -97,11 +101,15 @@ fn broken_sparse(pool: &[u16], r: LayoutRecord) -> Option<Rule>
     if !places_inside(pool, r) {
         return Some(Rule::Inside);
     }
-    if places_ascend(pool, r) { None } else { Some(Rule::Order) }
+    if places_ascend(pool, r) {
+        None
+    } else {
+        Some(Rule::Order)
+    }
 }
 
 /// The first rule that a record breaks.
-pub fn broken_record(pool: &[u16], r: LayoutRecord) -> Option<Rule>
+pub(crate) fn broken_record(pool: &[u16], r: LayoutRecord) -> Option<Rule>
     ensures { λ o. ⌜ o ≡ record-broken (now (pool .entry)) r ⌝ }
 {
     match r.kind {

@@ -16,20 +16,29 @@ fn entry_at(pool: &[u16], r: LayoutRecord, k: usize, i: usize) -> usize
     requires there { ⌜ k < r .count ⌝ }
     ensures { λ e. ⌜ e ≡ record-entry (now (pool .entry)) r k i ⌝ }
 {
-    if i < r.rank { pool[r.start + k * r.rank + i] as usize } else { 0 }
+    if i < r.rank {
+        pool[r.start + k * r.rank + i] as usize
+    } else {
+        0
+    }
 }
 
 /// The entries of place `k`.
-pub fn place_at(pool: &[u16], r: LayoutRecord, k: usize) -> [usize; 4]
+pub(crate) fn place_at(pool: &[u16], r: LayoutRecord, k: usize) -> [usize; 4]
     requires held { ⌜ Held (now pool) r ⌝ }
     requires there { ⌜ k < r .count ⌝ }
     ensures { λ e. ⌜ e ≡ entries (record-place (now (pool .entry)) r k) ⌝ }
 {
-    [entry_at(pool, r, k, 0), entry_at(pool, r, k, 1), entry_at(pool, r, k, 2), entry_at(pool, r, k, 3)]
+    [
+        entry_at(pool, r, k, 0),
+        entry_at(pool, r, k, 1),
+        entry_at(pool, r, k, 2),
+        entry_at(pool, r, k, 3),
+    ]
 }
 
 /// The order of two places: that of the first entries that differ.
-pub fn cmp_index(p: [usize; 4], q: [usize; 4]) -> Ordering
+pub(crate) fn cmp_index(p: [usize; 4], q: [usize; 4]) -> Ordering
     ensures { λ o. ⌜ Ranked o (Before (place-of p) (place-of q)) (place-of p ≡ place-of q) (Before (place-of q) (place-of p)) ⌝ }
 {
     if p[0] != q[0] {
@@ -45,7 +54,7 @@ pub fn cmp_index(p: [usize; 4], q: [usize; 4]) -> Ordering
 }
 
 /// The number of a place, searched by halves.
-pub fn search(pool: &[u16], r: LayoutRecord, p: [usize; 4]) -> Option<usize>
+pub(crate) fn search(pool: &[u16], r: LayoutRecord, p: [usize; 4]) -> Option<usize>
     requires held { ⌜ Held (now pool) r ⌝ }
     requires ascending { ⌜ Ascending (now pool) r ⌝ }
     requires few { ⌜ r .count ≤ 65536 ⌝ }
