@@ -1,17 +1,20 @@
 -- One pass over two rows of places that ascend.
 use mathlib.Core.Path.{_≡_, refl, sym, ap, subst, _∙_}
-use mathlib.Core.List.{List, [], _∷_}
-use mathlib.Core.Bool.{Bool, true, false, cond, _&&_, _||_}
+use mathlib.Core.List.{List, [], _∷_, map}
+use mathlib.Core.Bool.{Bool, true, false, cond, not, _&&_, _||_}
 use mathlib.Core.Logic.{_⊎_, inl, inr}
 use Prim.Native.Nat.{ℕ, zero, suc, _+_, _-_, _<_, _≤_}
 use native.Mathlib.Omega.{arith}
 use lib.Dec.{eqb}
+use lib.IntN.{pos, natAbs}
 use lib.ListN.{length, getD, take}
+use Rattle.std.proofs.shelf.Lists.{take-map}
 use Rattle.std.proofs.shelf.Tests.{cases-bool, cases-lt, cases-eq, cases-order, eqb-true, eqb-false, eq-eqb, ne-eqb, and-parts, and-from, or-cases, or-left, or-right, true≢false, false≢true, both-ways}
 use Rattle.std.proofs.shelf.Ways.{same-from-decides}
 use Rattle.std.specs.Orderings.{Decides}
 use Rattle.layout.specs.Places.{Place, Agree, entries, same}
 use Rattle.layout.specs.Layouts.{Layout, Valid, count, rank, at}
+use Rattle.layout.specs.Answers.{index-of}
 use Rattle.layout.proofs.Finding.{same-true}
 use Rattle.grouping.specs.Groups.{Grouped, changes}
 use Rattle.grouping.specs.Keys.{key, agrees, Covered}
@@ -169,3 +172,18 @@ covered-by m n s v r e d = same-from-decides r (covered m s v) d (covered-decide
 
 pub covered-by-other : (m n : ℕ) (s v : Layout) (r : Bool) → m ≡ n → Decides r (Covered m v s) → r ≡ covered n s v
 covered-by-other m n s v r e d = covered-by m n s v r e (λ h. other-way m v s (d .0 h), λ c. d .1 (other-way m s v c))
+
+-- places agree as their indices do
+index-agree : (m : ℕ) (p q : Place) → take m (index-of p) ≡ take m (index-of q) → Agree m p q
+index-agree m p q e = take-map natAbs m (index-of p) ∙ ap (map natAbs) e ∙ sym (take-map natAbs m (index-of q))
+
+agree-index : (m : ℕ) (p q : Place) → Agree m p q → take m (index-of p) ≡ take m (index-of q)
+agree-index m p q e = take-map pos m (entries p) ∙ ap (map pos) e ∙ sym (take-map pos m (entries q))
+
+-- a range begins where two places do not agree
+pub begins-cut : (m : ℕ) (p q : Place) (r : Bool) → Decides r (take m (index-of p) ≡ take m (index-of q) → ⊥) → r ≡ not (agrees m p q)
+begins-cut m p q r d =
+    elim (cases-bool (agrees m p q)) [
+      inl t ↦ rw t (elim (cases-bool r) [ inl y ↦ absurd (d .0 y (agree-index m p q (agrees-true m p q t))) | inr n ↦ n ])
+    | inr f ↦ rw f (d .1 (λ e. agrees-false m p q f (index-agree m p q e)))
+    ]

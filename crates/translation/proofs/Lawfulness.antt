@@ -39,7 +39,7 @@ use Rattle.std.proofs.shelf.Elements.{all-weaker, all-has, all-kept-by, kept-by
 use Rattle.std.specs.shelf.Lists.{All, Has, kept-by}
 use Rattle.translation.proofs.Covering.{covered-says, other-way, agrees-true, true-agrees}
 use Rattle.translation.proofs.Counts.{dense-count, diagonal-count, tails}
-use Rattle.translation.proofs.Cutting.{range-of}
+use Rattle.translation.proofs.Ranged.{range-of}
 use Rattle.translation.proofs.Meeting.{tail-some}
 use Rattle.translation.proofs.Rising.{strict-says, rise}
 use Rattle.translation.specs.Entries.{from-entries, to-entries, from-count, to-count}

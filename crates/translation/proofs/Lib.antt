@@ -6,7 +6,7 @@ pub mod Landing
 pub mod Going
 pub mod Meeting
 pub mod Counts
-pub mod Cutting
+pub mod Ranged
 pub mod Rising
 pub mod Accepting
 pub mod Lawfulness

@@ -4,9 +4,11 @@ use mathlib.Core.Bool.{Bool, true, false, cond, not, _&&_, _||_}
 use mathlib.Core.Path.{_≡_}
 use Prim.Native.Nat.{ℕ, zero, suc, _+_, _-_, _<_, _≤_}
 use lib.IntN.{ℤ, pos}
+use lib.ListN.{take}
 use Rattle.layout.specs.Layouts.{Layout, count, at}
 use Rattle.std.specs.Options.{Cases}
 use Rattle.std.specs.declared.option.Option.{Option}
+use Rattle.std.specs.declared.option.Option.the-variants.{Some, None}
 use Rattle.grouping.specs.Keys.{agrees}
 
 -- a test holds of some number below n, of each
@@ -23,6 +25,11 @@ abbrev pub covered : ℕ → Layout → Layout → Bool
 covered m s v =
     all (λ i. any (λ j. agrees m (at s i) (at v j)) (count v)) (count s)
     && all (λ j. any (λ i. agrees m (at s i) (at v j)) (count s)) (count v)
+
+-- a range begins at a place p: there is none before it, or its first m entries differ from those of the last
+abbrev pub Begins : ℕ → Option (List ℤ) → List ℤ → Type 0
+Begins m None p = Unit {0}
+Begins m (Some last) p = take m last ≡ take m p → ⊥
 
 -- place i does not agree with the one before it on the first m entries
 abbrev pub cut : ℕ → Layout → ℕ → Bool

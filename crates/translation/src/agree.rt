@@ -8,12 +8,12 @@ ghost use Rattle.std.specs.Orderings.{Decides};
 ghost use Rattle.layout.specs.Places.{Agree};
 ghost use Rattle.layout.specs.Layouts.{AllValid, blank, rank, at, count as place-count};
 ghost use Rattle.grouping.specs.Keys.{agrees, Covered};
-ghost use Rattle.translation.specs.Cuts.{cut, Steps};
+ghost use Rattle.translation.specs.Cuts.{Steps};
 use layout::catalogue::Catalogue;
 use layout::index::Index;
 
 /// Whether two indices agree on their first `m` entries.
-fn agree(m: usize, p: Index, q: Index) -> bool
+pub(crate) fn agree(m: usize, p: Index, q: Index) -> bool
     ensures { λ r. ⌜ Decides r (take m p ≡ take m q) ⌝ }
 {
     for i in 0..4 {
@@ -44,16 +44,6 @@ fn places_agree<C: Catalogue>(
     agree(m, p, q)
 }
 
-// Whether place `i` of a layout and the one before it differ in their first `m` entries.
-pub fn is_cut<C: Catalogue>(catalogue: &C, m: usize, layout: usize, i: usize) -> bool
-    requires known { ⌜ layout < length (layouts (now catalogue)) ⌝ }
-    requires after { ⌜ 0 < i ⌝ }
-    requires there { ⌜ i < place-count (getD (layouts (now catalogue)) layout blank) ⌝ }
-    ensures { λ r. ⌜ r ≡ cut m (getD (layouts (now (catalogue .entry))) layout blank) i ⌝ }
-{
-    !places_agree(catalogue, m, layout, i - 1, layout, i)
-}
-
 // Which of the places `j` and `j + 1` of the shorter row place `i` of the longer agrees with.
 fn step_under<C: Catalogue>(
     catalogue: &C,
@@ -82,7 +72,7 @@ fn step_under<C: Catalogue>(
 }
 
 // Whether each place of the longer row agrees with one of the shorter on their first `m` entries, and each of the shorter with one of the longer. Both ascend, so one pass tells.
-pub fn covers<C: Catalogue>(
+pub(crate) fn covers<C: Catalogue>(
     catalogue: &C,
     m: usize,
     long: usize,

@@ -1,24 +1,54 @@
-// The ranges of a sparse source.
+//! The ranges of a sparse source.
 ghost use mathlib.Core.Path.{_≡_};
-ghost use Prim.Native.Nat.{ℕ, _<_, _≤_, _+_, _*_, _^_};
+ghost use Prim.Native.Nat.{_<_, _≤_, _+_, _-_, _^_};
 ghost use lib.IntN.{pos};
 ghost use lib.ListN.{length, getD, set};
 ghost use Rattle.std.specs.shelf.Lists.{paste};
 ghost use Rattle.layout.specs.Layouts.{blank, count as place-count};
-ghost use Rattle.translation.specs.Cuts.{ranges, range-entries};
-use crate::agree::is_cut;
+ghost use Rattle.std.specs.declared.option.Option.the-variants.{Some};
+ghost use Rattle.layout.specs.Layouts.{at as place-at};
+ghost use Rattle.layout.specs.Answers.{index-of};
+ghost use Rattle.translation.specs.Cuts.{cut, ranges, range-entries};
+use crate::cutting::Cutting;
 use layout::catalogue::Catalogue;
 
-// How many ranges a layout's places make, cut wherever the first `m` entries change.
-pub fn count_ranges<C: Catalogue>(catalogue: &C, m: usize, layout: usize, count: usize) -> usize
+/// Feeds place 0.
+fn feed_first<C: Catalogue>(catalogue: &C, cutting: &mut Cutting, layout: usize)
+    requires known { ⌜ layout < length (layouts (now catalogue)) ⌝ }
+    requires there { ⌜ 0 < place-count (getD (layouts (now catalogue)) layout blank) ⌝ }
+    ensures axes { λ _. ⌜ now (cutting .exit) .axes ≡ now (cutting .entry) .axes ⌝ }
+    ensures last { λ _. ⌜ now (cutting .exit) .last ≡ Some (index-of (place-at (getD (layouts (now (catalogue .entry))) layout blank) 0)) ⌝ }
+{
+    let (place, _) = catalogue.place(layout, 0);
+    let _ = cutting.begins(place);
+}
+
+/// Feeds place `i` after the one before it, and answers whether a range begins there.
+fn feed<C: Catalogue>(catalogue: &C, cutting: &mut Cutting, layout: usize, i: usize) -> bool
+    requires known { ⌜ layout < length (layouts (now catalogue)) ⌝ }
+    requires after { ⌜ 0 < i ⌝ }
+    requires there { ⌜ i < place-count (getD (layouts (now catalogue)) layout blank) ⌝ }
+    requires fed { ⌜ now cutting .last ≡ Some (index-of (place-at (getD (layouts (now catalogue)) layout blank) (i - 1))) ⌝ }
+    ensures is { λ r. ⌜ r ≡ cut (now (cutting .entry) .axes) (getD (layouts (now (catalogue .entry))) layout blank) i ⌝ }
+    ensures axes { λ _. ⌜ now (cutting .exit) .axes ≡ now (cutting .entry) .axes ⌝ }
+    ensures last { λ _. ⌜ now (cutting .exit) .last ≡ Some (index-of (place-at (getD (layouts (now (catalogue .entry))) layout blank) i)) ⌝ }
+{
+    let (place, _) = catalogue.place(layout, i);
+    cutting.begins(place)
+}
+
+/// How many ranges a layout's places make, cut wherever the first `m` entries change.
+pub(crate) fn count_ranges<C: Catalogue>(catalogue: &C, m: usize, layout: usize, count: usize) -> usize
     requires known { ⌜ layout < length (layouts (now catalogue)) ⌝ }
     requires counted { ⌜ count ≡ place-count (getD (layouts (now catalogue)) layout blank) ⌝ }
     requires some { ⌜ 1 ≤ count ⌝ }
     ensures { λ r. ⌜ r ≡ length (ranges m (getD (layouts (now (catalogue .entry))) layout blank)) ⌝ }
 {
+    let mut cutting = Cutting::new(m);
+    feed_first(catalogue, &mut cutting, layout);
     let mut n = 1;
     for i in 1..count {
-        if is_cut(catalogue, m, layout, i) {
+        if feed(catalogue, &mut cutting, layout, i) {
             n += 1;
         }
     }
@@ -35,8 +65,8 @@ fn write_pair(table: &mut [i32], at: usize, a: usize, b: usize)
     table[at + 1] = b as i32;
 }
 
-// Appends each range as its start and end, and answers where the entries end.
-pub fn write_ranges<C: Catalogue>(
+/// Appends each range as its start and end, and answers where the entries end.
+pub(crate) fn write_ranges<C: Catalogue>(
     catalogue: &C,
     m: usize,
     layout: usize,
@@ -52,10 +82,12 @@ pub fn write_ranges<C: Catalogue>(
     ensures end { λ r. ⌜ r ≡ at + length (range-entries (ranges m (getD (layouts (now (catalogue .entry))) layout blank))) ⌝ }
     ensures written { λ r. ⌜ now (table .exit) ≡ paste (now (table .entry)) at (range-entries (ranges m (getD (layouts (now (catalogue .entry))) layout blank))) (length (range-entries (ranges m (getD (layouts (now (catalogue .entry))) layout blank)))) ⌝ }
 {
+    let mut cutting = Cutting::new(m);
+    feed_first(catalogue, &mut cutting, layout);
     let mut start = 0;
     let mut written = 0;
     for i in 1..count {
-        if is_cut(catalogue, m, layout, i) {
+        if feed(catalogue, &mut cutting, layout, i) {
             write_pair(table, at + written, start, i);
             start = i;
             written += 2;
