@@ -51,3 +51,11 @@ measured ls n = cond (known ls n) (Ok (shape-of (getD ls n blank))) (Err Unknown
 abbrev pub translated : List Layout → ℕ → ℕ → List ℤ → ℕ → Result Translation TranslationFault
 translated ls source via start target =
     cond (known ls source && (known ls via && known ls target)) (translating (getD ls source blank) (getD ls via blank) start (getD ls target blank)) (Err Unknown)
+
+-- how a source makes the elements of a via: refusals 1 and 4
+abbrev pub or-refused : Option TranslationFrom → Result TranslationFrom TranslationFault
+or-refused None = Err NoTranslation
+or-refused (Some f) = Ok f
+
+abbrev pub from-asked : List Layout → ℕ → ℕ → Result TranslationFrom TranslationFault
+from-asked ls source via = cond (known ls source && known ls via) (or-refused (from-of (shape-of (getD ls source blank)) (shape-of (getD ls via blank)))) (Err Unknown)

@@ -1,4 +1,4 @@
-// Places that agree on their first entries.
+//! Places that agree on their first entries.
 ghost use mathlib.Core.Path.{_≡_};
 ghost use mathlib.Core.Logic.{_⊎_};
 ghost use Prim.Native.Nat.{ℕ, _<_, _≤_, _+_};
@@ -24,7 +24,7 @@ pub(crate) fn agree(m: usize, p: Index, q: Index) -> bool
     true
 }
 
-// Whether place `i` of one layout and place `j` of another agree on their first `m` entries.
+/// Whether place `i` of one layout and place `j` of another agree on their first `m` entries.
 fn places_agree<C: Catalogue>(
     catalogue: &C,
     m: usize,
@@ -44,7 +44,7 @@ fn places_agree<C: Catalogue>(
     agree(m, p, q)
 }
 
-// Which of the places `j` and `j + 1` of the shorter row place `i` of the longer agrees with.
+/// Which of the places `j` and `j + 1` of the shorter row place `i` of the longer agrees with.
 fn step_under<C: Catalogue>(
     catalogue: &C,
     m: usize,
@@ -71,7 +71,7 @@ fn step_under<C: Catalogue>(
     None
 }
 
-// Whether each place of the longer row agrees with one of the shorter on their first `m` entries, and each of the shorter with one of the longer. Both ascend, so one pass tells.
+/// Whether each place of the longer row agrees with one of the shorter on their first `m` entries, and each of the shorter with one of the longer. Both ascend, so one pass tells.
 pub(crate) fn covers<C: Catalogue>(
     catalogue: &C,
     m: usize,

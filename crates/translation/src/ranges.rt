@@ -42,7 +42,8 @@ pub(crate) fn count_ranges<C: Catalogue>(catalogue: &C, m: usize, layout: usize,
     requires known { ⌜ layout < length (layouts (now catalogue)) ⌝ }
     requires counted { ⌜ count ≡ place-count (getD (layouts (now catalogue)) layout blank) ⌝ }
     requires some { ⌜ 1 ≤ count ⌝ }
-    ensures { λ r. ⌜ r ≡ length (ranges m (getD (layouts (now (catalogue .entry))) layout blank)) ⌝ }
+    ensures is { λ r. ⌜ r ≡ length (ranges m (getD (layouts (now (catalogue .entry))) layout blank)) ⌝ }
+    ensures bound { λ r. ⌜ r ≤ count ⌝ }
 {
     let mut cutting = Cutting::new(m);
     feed_first(catalogue, &mut cutting, layout);

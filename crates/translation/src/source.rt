@@ -1,4 +1,4 @@
-// What is made of a block's source.
+//! What is made of a block's source.
 ghost use mathlib.Core.Path.{_≡_};
 ghost use Prim.Native.Nat.{ℕ, _≤_, _<_, _*_};
 ghost use lib.ListN.{getD};
@@ -10,7 +10,7 @@ use crate::kinds::TranslationFrom;
 use layout::kind::LayoutKind;
 use layout::shape::Shape;
 
-// The product of the axes past the first `m`.
+/// The product of the axes past the first `m`.
 fn tail_size(n: [usize; 4], m: usize) -> usize
     requires { ⌜ ((i : ℕ) → getD n i 0 ≤ 4096) ⌝ }
     ensures { λ r. ⌜ r ≡ tail-size m n ⌝ }
@@ -44,7 +44,7 @@ fn contraction(source: Shape, via_rank: usize) -> TranslationFrom
     }
 }
 
-// How many of the via's axes a source takes up: each of its axes two, where it is dense and the via is not.
+/// How many of the via's axes a source takes up: each of its axes two, where it is dense and the via is not.
 fn axes_taken(source: LayoutKind, via: LayoutKind, rank: usize) -> usize
     requires { ⌜ rank ≤ 4 ⌝ }
     ensures { λ r. ⌜ r ≡ taken-up source via rank ⌝ }
@@ -72,23 +72,22 @@ fn broadcast(broadcast_by: usize, source_rank: usize, via: Shape) -> Option<Tran
     }
 }
 
-impl TranslationFrom {
-    pub fn new(source: Shape, via: Shape) -> Option<TranslationFrom>
-        requires source { ⌜ ((i : ℕ) → getD (source .lengths) i 0 ≤ 4096) ⌝ }
-        requires via { ⌜ ((i : ℕ) → getD (via .lengths) i 0 ≤ 4096) ⌝ }
-        requires rank { ⌜ source .rank ≤ 4 ⌝ }
-        ensures { λ r. ⌜ r ≡ from-of source via ⌝ }
-    {
-        if via.rank < source.rank {
-            return Some(contraction(source, via.rank));
-        }
-        let taken = axes_taken(source.kind, via.kind, source.rank);
-        if via.rank < taken {
-            None
-        } else if via.rank == taken {
-            Some(TranslationFrom::ElementWise)
-        } else {
-            broadcast(via.rank - taken, source.rank, via)
-        }
+/// How a source of one shape makes the elements of a via of another, or none.
+pub(crate) fn from_shapes(source: Shape, via: Shape) -> Option<TranslationFrom>
+    requires source { ⌜ ((i : ℕ) → getD (source .lengths) i 0 ≤ 4096) ⌝ }
+    requires via { ⌜ ((i : ℕ) → getD (via .lengths) i 0 ≤ 4096) ⌝ }
+    requires rank { ⌜ source .rank ≤ 4 ⌝ }
+    ensures { λ r. ⌜ r ≡ from-of source via ⌝ }
+{
+    if via.rank < source.rank {
+        return Some(contraction(source, via.rank));
+    }
+    let taken = axes_taken(source.kind, via.kind, source.rank);
+    if via.rank < taken {
+        None
+    } else if via.rank == taken {
+        Some(TranslationFrom::ElementWise)
+    } else {
+        broadcast(via.rank - taken, source.rank, via)
     }
 }

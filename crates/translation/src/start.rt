@@ -1,4 +1,4 @@
-// A block's start in its target.
+//! A block's start in its target.
 ghost use mathlib.Core.Path.{_≡_};
 ghost use Prim.Native.Nat.{ℕ, _≤_, _<_};
 ghost use lib.IntN.{pos, _+ℤ_};
@@ -15,8 +15,8 @@ fn strays_at(rank: usize, start: Index, i: usize) -> bool
     (rank <= i) & (start[i] != 0)
 }
 
-// Whether a start does not fit a via and a target of these ranks.
-pub fn is_refused(via_rank: usize, start: Index, target_rank: usize) -> bool
+/// Whether a start does not fit a via and a target of these ranks.
+pub(crate) fn is_refused(via_rank: usize, start: Index, target_rank: usize) -> bool
     ensures { λ r. ⌜ r ≡ start-refused «via_rank» start «target_rank» ⌝ }
 {
     (target_rank < via_rank)
@@ -26,7 +26,7 @@ pub fn is_refused(via_rank: usize, start: Index, target_rank: usize) -> bool
             | strays_at(target_rank, start, 3))
 }
 
-// A start entry plus a place's entry, as far as a lookup tells: past the longest axis no entry is found.
+/// A start entry plus a place's entry, as far as a lookup tells: past the longest axis no entry is found.
 fn shifted_entry(start: i64, entry: i64) -> i64
     requires low { ⌜ pos 0 ≤ℤ entry ⌝ }
     requires high { ⌜ entry <ℤ pos 4096 ⌝ }
@@ -35,8 +35,8 @@ fn shifted_entry(start: i64, entry: i64) -> i64
     if start > 4096 { start } else { start + entry }
 }
 
-// A start plus a place, as far as a lookup tells.
-pub fn shifted(start: Index, place: Index) -> Index
+/// A start plus a place, as far as a lookup tells.
+pub(crate) fn shifted(start: Index, place: Index) -> Index
     requires low { ⌜ ((i : ℕ) → pos 0 ≤ℤ getD place i (pos 0)) ⌝ }
     requires high { ⌜ ((i : ℕ) → getD place i (pos 0) <ℤ pos 4096) ⌝ }
     ensures a { λ r. ⌜ Told r start place 0 ⌝ }

@@ -1,4 +1,4 @@
-// Where the elements of a block go.
+//! Where the elements of a block go.
 ghost use mathlib.Core.Path.{_≡_};
 ghost use mathlib.Core.List.{map};
 ghost use Prim.Native.Nat.{ℕ, _<_, _≤_, _+_};
@@ -14,8 +14,8 @@ use crate::start::shifted;
 use layout::catalogue::Catalogue;
 use layout::index::Index;
 
-// The target's place for place `k` of the via: start plus place, looked up strictly.
-pub fn destination<C: Catalogue>(
+/// The target's place for place `k` of the via: start plus place, looked up strictly.
+pub(crate) fn destination<C: Catalogue>(
     catalogue: &C,
     via: usize,
     start: Index,
@@ -37,8 +37,8 @@ pub fn destination<C: Catalogue>(
 }
 
 impl TranslationTo {
-    // Where the places of a via go, or the first that goes nowhere.
-    pub fn new<C: Catalogue>(
+    /// Where the places of a via go, or the first that goes nowhere.
+    pub(crate) fn new<C: Catalogue>(
         catalogue: &C,
         via: usize,
         count: usize,
@@ -74,8 +74,8 @@ impl TranslationTo {
     }
 }
 
-// Appends each destination.
-pub fn write_destinations<C: Catalogue>(
+/// Appends each destination.
+pub(crate) fn write_destinations<C: Catalogue>(
     catalogue: &C,
     via: usize,
     count: usize,
@@ -98,7 +98,7 @@ pub fn write_destinations<C: Catalogue>(
     at + count
 }
 
-// A destination as an entry of the index table.
+/// A destination as an entry of the index table.
 fn entry(number: Option<usize>) -> i32
     requires { ⌜ found number (λ n. n < 65536) ⌝ }
     ensures { λ r. ⌜ r ≡ pos (valueOr number 0) ⌝ }

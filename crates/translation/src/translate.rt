@@ -1,4 +1,4 @@
-// The translation of a block.
+//! The translation of a block.
 ghost use mathlib.Core.Path.{_≡_};
 ghost use mathlib.Core.Bool.{cond};
 ghost use Prim.Native.Nat.{ℕ, _<_, _≤_, _+_, _^_, min};
@@ -10,22 +10,23 @@ ghost use Rattle.layout.specs.Answers.{shape-of};
 ghost use Rattle.translation.specs.Cuts.{covered, ranges};
 ghost use Rattle.translation.specs.Froms.{from-of, elements-of, Long};
 ghost use Rattle.std.specs.Vec.{made as made-so};
-ghost use Rattle.translation.specs.Laws.{LawfulIn, Laws, Over-listed};
-ghost use Rattle.translation.specs.Outcome.{measured as measure-of, elements-made, translated-by, translated};
+ghost use Rattle.translation.specs.Laws.{LawfulIn, Over-listed};
+ghost use Rattle.translation.specs.Outcome.{measured as measure-of, from-asked, translated-by, translated};
 use crate::agree::covers;
-use crate::faults::FaultFromRefusal;
+use crate::faults::TranslationFromLayout;
 use crate::kinds::Translation;
 use crate::kinds::TranslationFault;
 use crate::kinds::TranslationFrom;
 use crate::kinds::TranslationTo;
 use crate::ranges::count_ranges;
+use crate::source::from_shapes;
 use crate::start::is_refused;
 use layout::catalogue::Catalogue;
 use layout::index::Index;
 use layout::shape::Shape;
 
-// The shape of a layout that exists, in a catalogue of valid ones.
-fn measured<C: Catalogue>(catalogue: &C, layout: usize) -> Result<Shape, TranslationFault>
+/// The shape of a layout that exists, in a catalogue of valid ones.
+pub(crate) fn measured<C: Catalogue>(catalogue: &C, layout: usize) -> Result<Shape, TranslationFault>
     ensures is { λ r. ⌜ r ≡ measure-of (layouts (now (catalogue .entry))) layout ⌝ }
     ensures valid { λ _. ⌜ AllValid (layouts (now (catalogue .entry))) ⌝ }
 {
@@ -35,7 +36,7 @@ fn measured<C: Catalogue>(catalogue: &C, layout: usize) -> Result<Shape, Transla
     Ok(catalogue.shape(layout)?)
 }
 
-// How many elements are made; none where they are more than any layout has places.
+/// How many elements are made; none where they are more than any layout has places.
 fn elements<C: Catalogue>(
     catalogue: &C,
     from: TranslationFrom,
@@ -69,7 +70,7 @@ fn elements<C: Catalogue>(
     }
 }
 
-// Whether each source place lies over a via place, and each via place under a source place.
+/// Whether each source place lies over a via place, and each via place under a source place.
 fn is_covered<C: Catalogue>(catalogue: &C, source: usize, s: Shape, via: usize, v: Shape) -> bool
     requires valid { ⌜ AllValid (layouts (now catalogue)) ⌝ }
     requires source { ⌜ source < length (layouts (now catalogue)) ⌝ }
@@ -85,7 +86,7 @@ fn is_covered<C: Catalogue>(catalogue: &C, source: usize, s: Shape, via: usize, 
     }
 }
 
-// Refusals 5 to 7, of a block that has a kind.
+/// Refusals 5 to 7, of a block that has a kind.
 fn translate_by<C: Catalogue>(
     catalogue: &C,
     from: TranslationFrom,
@@ -118,13 +119,13 @@ fn translate_by<C: Catalogue>(
         Ok(to) => Ok(Translation {
             from,
             to,
-            elements: made,
+            elements: made as u32,
         }),
         Err(place) => Err(TranslationFault::NoDestination { place }),
     }
 }
 
-// The outcome, without its laws.
+/// The outcome, without its laws.
 fn outcome<C: Catalogue>(
     catalogue: &C,
     source: usize,
@@ -141,29 +142,43 @@ fn outcome<C: Catalogue>(
     if is_refused(v.rank, start, t.rank) {
         return Err(TranslationFault::Start);
     }
-    match TranslationFrom::new(s, v) {
+    match from_shapes(s, v) {
         Some(from) => translate_by(catalogue, from, source, s, via, v, start, target),
         None => Err(TranslationFault::NoTranslation),
     }
 }
 
-// The translation of a source by way of a via that begins at `start` in a target.
-pub fn translate<C: Catalogue>(
-    catalogue: &C,
-    source: usize,
-    via: usize,
-    start: Index,
-    target: usize,
-) -> Result<Translation, TranslationFault>
-    ensures is { λ r. ⌜ r ≡ translated (layouts (now (catalogue .entry))) source via start target ⌝ }
-    ensures lawful { λ r. ⌜ made-so r (LawfulIn (layouts (now (catalogue .entry))) source via start target) ⌝ }
-{
-    outcome(catalogue, source, via, start, target)
+impl TranslationFrom {
+    /// How a source makes the elements of a via.
+    pub fn new<C: Catalogue>(
+        catalogue: &C,
+        source: usize,
+        via: usize,
+    ) -> Result<TranslationFrom, TranslationFault>
+        ensures { λ r. ⌜ r ≡ from-asked (layouts (now (catalogue .entry))) source via ⌝ }
+    {
+        let s = measured(catalogue, source)?;
+        let v = measured(catalogue, via)?;
+        match from_shapes(s, v) {
+            Some(from) => Ok(from),
+            None => Err(TranslationFault::NoTranslation),
+        }
+    }
 }
 
-// Every accepted translation is lawful, whatever catalogue it was asked of.
-pub fn laws_stand() -> u8
-    ensures { λ _. ⌜ Laws × Over-listed ⌝ }
-{
-    0
+impl Translation {
+    /// The translation of a source by way of a via that begins at `start` in a target.
+    pub fn new<C: Catalogue>(
+        catalogue: &C,
+        source: usize,
+        via: usize,
+        start: Index,
+        target: usize,
+    ) -> Result<Translation, TranslationFault>
+        ensures is { λ r. ⌜ r ≡ translated (layouts (now (catalogue .entry))) source via start target ⌝ }
+        ensures lawful { λ r. ⌜ made-so r (LawfulIn (layouts (now (catalogue .entry))) source via start target) ⌝ }
+        ensures over { λ _. ⌜ Over-listed ⌝ }
+    {
+        outcome(catalogue, source, via, start, target)
+    }
 }

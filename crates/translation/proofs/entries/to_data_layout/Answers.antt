@@ -1,58 +1,70 @@
-use mathlib.Core.Path.{_≡_, sym, ap, subst, _∙_}
-use mathlib.Core.List.{_++_}
-use Prim.Native.Nat.{ℕ, _+_, _≤_}
+use mathlib.Core.Path.{_≡_, refl, sym, ap, _∙_}
+use mathlib.Core.Bool.{Bool, true, false}
+use mathlib.Core.List.{List}
+use Prim.Native.Nat.{ℕ, _+_, _≤_, _<_}
 use native.Mathlib.Omega.{arith}
+use lib.Dec.{leb}
+use lib.IntN.{ℤ}
 use lib.ListN.{length, getD, length-append}
-use Rattle.std.specs.shelf.Lists.{paste}
+use Rattle.std.proofs.shelf.Tests.{leb-true}
+use Rattle.std.specs.declared.result.Result.the-variants.{Ok}
 use Rattle.layout.specs.declared.shape.Shape.{Shape}
-use Rattle.layout.specs.Layouts.{blank, rank, count}
+use Rattle.layout.specs.Layouts.{Layout, blank, rank, count}
+use Rattle.translation.specs.declared.kinds.Translation.{Translation}
 use Rattle.translation.specs.Tos.{destination}
-use Rattle.translation.specs.Entries.{from-entries, to-entries}
-use Rattle.translation.proofs.Entering.{shape-known, both-parts}
+use Rattle.translation.specs.Entries.{from-entries, to-entries, to-count, data-layout}
+use Rattle.translation.proofs.Meeting.{measured-says, appends}
+use Rattle.translation.proofs.Entering.{to-long}
 use Rattle.translation.proofs.entries.to_data_layout.Needs as need
 
-pub write-from-listed-requires : need.write-from-listed-requires
-write-from-listed-requires g c κs =
-    let ls = g .C·Catalogue .layouts (c .args .catalogue .now) in
-    let l = getD ls (c .args .source) blank in
-    let r = getD ls (c .args .via) blank in
-    let d = destination r (c .args .start) (getD ls (c .args .target) blank) in
-    let es = ap (λ (s : Shape). s .count) (shape-known ls (c .args .source) (c .in-Ok .s) (c .in-Ok .ensures tt) (c .pre .source)) in
-    let ev = ap (λ (s : Shape). s .rank) (shape-known ls (c .args .via) (c .in-Ok-shape .v) (c .in-Ok-shape .ensures tt) (c .pre .via)) in
-    let some = c .pre .valid _ (c .pre .source) .some in
-    let many = c .pre .valid _ (c .pre .source) .many in
-    let f = ap (λ n. length (from-entries (c .args .translation .from) l n)) ev in
-    let a = length-append (from-entries (c .args .translation .from) l (rank r)) (to-entries (c .args .translation .to) d (count r)) in
-    record { known = c .pre .source; counted = es; some = omega arith; few = omega arith; room = omega (arith, c .pre .room) }
+-- the entries are as many as were counted
+long : (t : Translation) (s v : Layout) (x : List ℤ) (g : Layout) (r n f to : ℕ) → r ≡ rank v → n ≡ count v → f ≡ length (from-entries (t .from) s r) → to ≡ to-count (t .to) n → f + to ≡ length (data-layout t s v x g)
+long t s v x g r n f to er en ef et =
+    let a = length-append (from-entries (t .from) s (rank v)) (to-entries (t .to) (destination v x g) (count v)) in
+    let b = ap (λ y. length (from-entries (t .from) s y)) er in
+    let d = to-long (t .to) (destination v x g) (count v) in
+    let e = ap (to-count (t .to)) en in
+    omega arith
 
-pub write-to-requires : need.write-to-requires
-write-to-requires g c κs =
+pub from-len-requires : need.from-len-requires
+from-len-requires g c κs =
     let ls = g .C·Catalogue .layouts (c .args .catalogue .now) in
-    let l = getD ls (c .args .source) blank in
-    let r = getD ls (c .args .via) blank in
-    let d = destination r (c .args .start) (getD ls (c .args .target) blank) in
-    let v = shape-known ls (c .args .via) (c .in-Ok-shape .v) (c .in-Ok-shape .ensures tt) (c .pre .via) in
-    let ev = ap (λ (s : Shape). s .rank) v in
-    let en = ap (λ (s : Shape). s .count) v in
-    let f = ap (λ n. length (from-entries (c .args .translation .from) l n)) ev in
-    let h = ap (λ n. length (to-entries (c .args .translation .to) d n)) en in
-    let a = length-append (from-entries (c .args .translation .from) l (rank r)) (to-entries (c .args .translation .to) d (count r)) in
-    record { valid = c .pre .valid; via = c .pre .via; target = c .pre .target; counted = en; room = omega (arith, c .pre .room, c .write-from-listed .ensures .end) }
+    let ms = measured-says ls (c .args .source) (c .in-Continue-s .s) (c .in-Continue-s .ensures tt .is) in
+    let valid = c .in-Continue-s .ensures tt .valid _ (ms .0) in
+    let n = ap (λ (s : Shape). s .count) (ms .1) in
+    record { known = ms .0; counted = n; some = omega (arith, valid .some); few = omega (arith, valid .many) }
+
+pub add-need : need.add-need
+add-need g c =
+    let ls = g .C·Catalogue .layouts (c .args .catalogue .now) in
+    let mv = measured-says ls (c .args .via) (c .in-Continue-v .v) (c .in-Continue-v .ensures tt .is) in
+    let n = ap (λ (s : Shape). s .count) (mv .1) in
+    omega (arith, c .in-Continue-v .ensures tt .valid _ (mv .0) .many, c .from-len .ensures .bound, c .to-len .ensures .bound)
+
+pub returns-then-not-has-room : need.returns-then-not-has-room
+returns-then-not-has-room g c =
+    let ls = g .C·Catalogue .layouts (c .args .catalogue .now) in
+    let ms = measured-says ls (c .args .source) (c .in-Continue-s .s) (c .in-Continue-s .ensures tt .is) in
+    let mv = measured-says ls (c .args .via) (c .in-Continue-v .v) (c .in-Continue-v .ensures tt .is) in
+    let mt = measured-says ls (c .args .target) (c .in-Continue-measured .field-0) (c .in-Continue-measured .ensures tt .is) in
+    let n = long (c .args .translation) (getD ls (c .args .source) blank) (getD ls (c .args .via) blank) (c .args .start) (getD ls (c .args .target) blank) _ _ _ _ (ap (λ (s : Shape). s .rank) (mv .1)) (ap (λ (s : Shape). s .count) (mv .1)) (c .from-len .ensures .is) (c .to-len .ensures .is) in
+    record { answer = appends ls (c .args .translation) (c .args .source) (c .args .via) (c .args .target) (c .args .start) (length (c .args .table .now)) (c .args .at) false (ms .0) (mv .0) (mt .0) (ap (λ m. leb (c .args .at + m) (length (c .args .table .now))) (sym n) ∙ sym (c .has-room .ensures) ∙ c .if-not-has-room .taken); written = refl }
+
+pub write-entries-requires : need.write-entries-requires
+write-entries-requires g c κs =
+    let ls = g .C·Catalogue .layouts (c .args .catalogue .now) in
+    let ms = measured-says ls (c .args .source) (c .in-Continue-s .s) (c .in-Continue-s .ensures tt .is) in
+    let mv = measured-says ls (c .args .via) (c .in-Continue-v .v) (c .in-Continue-v .ensures tt .is) in
+    let mt = measured-says ls (c .args .target) (c .in-Continue-measured .field-0) (c .in-Continue-measured .ensures tt .is) in
+    let n = long (c .args .translation) (getD ls (c .args .source) blank) (getD ls (c .args .via) blank) (c .args .start) (getD ls (c .args .target) blank) _ _ _ _ (ap (λ (s : Shape). s .rank) (mv .1)) (ap (λ (s : Shape). s .count) (mv .1)) (c .from-len .ensures .is) (c .to-len .ensures .is) in
+    let h = leb-true _ _ (sym (c .has-room .ensures) ∙ c .if-not-has-room .left) in
+    record { valid = c .in-Continue-s .ensures tt .valid; source = ms .0; via = mv .0; target = mt .0; room = omega arith }
 
 pub returns : need.returns
 returns g c =
     let ls = g .C·Catalogue .layouts (c .args .catalogue .now) in
-    let l = getD ls (c .args .source) blank in
-    let r = getD ls (c .args .via) blank in
-    let d = destination r (c .args .start) (getD ls (c .args .target) blank) in
-    let v = shape-known ls (c .args .via) (c .in-Ok-shape .v) (c .in-Ok-shape .ensures tt) (c .pre .via) in
-    let ev : c .in-Ok-shape .v .rank ≡ rank r = ap (λ (s : Shape). s .rank) v in
-    let en : c .in-Ok-shape .v .count ≡ count r = ap (λ (s : Shape). s .count) v in
-    let xs = λ (n : ℕ). from-entries (c .args .translation .from) l n in
-    let ys = λ (n : ℕ). to-entries (c .args .translation .to) d n in
-    let h = both-parts (c .args .table .now) (c .write-from-listed .last .table) (c .write-to .last .table) (xs (rank r)) (ys (count r)) (c .args .at) (c .write-from-listed .result) (c .write-to .result) (c .pre .room)
-    (subst (λ n. c .write-from-listed .result ≡ c .args .at + length (xs n)) ev (c .write-from-listed .ensures .end))
-    (subst (λ n. c .write-from-listed .last .table ≡ paste (c .args .table .now) (c .args .at) (xs n) (length (xs n))) ev (c .write-from-listed .ensures .written))
-    (subst (λ n. c .write-to .result ≡ c .write-from-listed .result + length (ys n)) en (c .write-to .ensures .end))
-    (subst (λ n. c .write-to .last .table ≡ paste (c .write-from-listed .last .table) (c .write-from-listed .result) (ys n) (length (ys n))) en (c .write-to .ensures .written)) in
-    record { end = h .0; written = h .1 }
+    let ms = measured-says ls (c .args .source) (c .in-Continue-s .s) (c .in-Continue-s .ensures tt .is) in
+    let mv = measured-says ls (c .args .via) (c .in-Continue-v .v) (c .in-Continue-v .ensures tt .is) in
+    let mt = measured-says ls (c .args .target) (c .in-Continue-measured .field-0) (c .in-Continue-measured .ensures tt .is) in
+    let n = long (c .args .translation) (getD ls (c .args .source) blank) (getD ls (c .args .via) blank) (c .args .start) (getD ls (c .args .target) blank) _ _ _ _ (ap (λ (s : Shape). s .rank) (mv .1)) (ap (λ (s : Shape). s .count) (mv .1)) (c .from-len .ensures .is) (c .to-len .ensures .is) in
+    record { answer = ap Ok (c .write-entries .ensures .end) ∙ appends ls (c .args .translation) (c .args .source) (c .args .via) (c .args .target) (c .args .start) (length (c .args .table .now)) (c .args .at) true (ms .0) (mv .0) (mt .0) (ap (λ m. leb (c .args .at + m) (length (c .args .table .now))) (sym n) ∙ sym (c .has-room .ensures) ∙ c .if-not-has-room .left); written = c .write-entries .ensures .written }

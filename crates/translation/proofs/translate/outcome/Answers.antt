@@ -21,8 +21,8 @@ returns-then-is-refused g c =
       valid = c .in-Continue-s .ensures tt .valid;
     }
 
-pub new-requires : need.new-requires
-new-requires g c κs =
+pub from-shapes-requires : need.from-shapes-requires
+from-shapes-requires g c κs =
     let ls = g .C·Catalogue .layouts (c .args .catalogue .now) in
     let valid = c .in-Continue-s .ensures tt .valid in
     let ms = measured-says ls (c .args .source) (c .in-Continue-s .s) (c .in-Continue-s .ensures tt .is) in
