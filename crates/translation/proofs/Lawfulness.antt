@@ -30,7 +30,7 @@ use Rattle.translation.specs.Froms.{contracted, taken-up, spread, widening, fr
 use Rattle.translation.specs.Tos.{shift, destination}
 use Rattle.translation.specs.Cuts.{ranges}
 use Rattle.translation.specs.Outcome.{elements-made, translated}
-use Rattle.translation.specs.Laws.{between, taken, Lawful, LawfulIn, Over-listed, Laws}
+use Rattle.translation.specs.Laws.{between, taken, Divided, Lawful, LawfulIn, Over-listed, Laws}
 use Rattle.translation.specs.declared.kinds.TranslationFault.{TranslationFault}
 use Rattle.std.specs.Vec.{made}
 use Rattle.std.specs.declared.result.Result.{Result}
@@ -60,7 +60,7 @@ whole n q w c h e f = let g : n / w ≡ q = ap (λ y. y / w) e ∙ mul-div-cance
 
 -- what the reader takes is what lies over
 abbrev Reads-by : Layout → Layout → TranslationFrom → Type 0
-Reads-by s v f = elements-made f s v ≡ count v → (k : ℕ) → k < count v → taken f s v k ≡ over-place (min (rank s) (rank v)) s (at v k)
+Reads-by s v f = elements-made f s v ≡ count v → Divided f s v × ((k : ℕ) → k < count v → taken f s v k ≡ over-place (min (rank s) (rank v)) s (at v k))
 
 abbrev Reads-in : Layout → Layout → Option TranslationFrom → Type 0
 Reads-in s v None = Unit {0}
@@ -79,13 +79,13 @@ module _ (s v : Layout) (vs : Valid s) (vv : Valid v) (cov : Covered (min (rank 
     at-least k xs e = sym e ∙ ap (λ m. over-place m s (at v k)) least
 
     reads-dense : s .kind ≡ Dense → Reads-by s v (contracted Dense (shape-of s) (rank v))
-    reads-dense d many k h =
+    reads-dense d many =
         let w = tail-size (rank v) (shape-of s .lengths) in
         let p = tail-padded (rank v) s in
         let some : 1 ≤ w = subst (λ y. 1 ≤ y) (sym p) (tail-some (rank v) (s .shape) (λ i. axis-small s vs i .0)) in
         let t = tails (rank v) (s .shape) in
         let n : count s ≡ count v * w = whole (count s) (t .0) w (count v) some (dense-count s vs d ∙ t .1 ∙ ap (λ y. t .0 * y) (sym p)) many in
-        at-least k (counting (k * w) w) (contraction (rank v) w s v vs vv (omega arith) cov-v some n (by-dense d p) k h)
+        ((some, n), λ k h. at-least k (counting (k * w) w) (contraction (rank v) w s v vs vv (omega arith) cov-v some n (by-dense d p) k h))
 
     reads-one : count s ≡ count v → (k : ℕ) → k < count v → k ∷ [] ≡ over-place (min (rank s) (rank v)) s (at v k)
     reads-one many k h =
@@ -96,22 +96,25 @@ module _ (s v : Layout) (vs : Valid s) (vv : Valid v) (cov : Covered (min (rank 
     reads-diagonal : s .kind ≡ Diagonal → Reads-by s v (contracted Diagonal (shape-of s) (rank v))
     reads-diagonal d =
         cond-both (eqb (rank v) 0) (DenseContraction (rank s - rank v) (axis (s .shape) 0)) (DiagonalContraction (rank s - rank v)) (Reads-by s v)
-        (λ z many k h.
+        (λ z many.
         let w = axis (s .shape) 0 in
         let some = axis-small s vs 0 .0 in
         let c = diagonal-count s vs d in
         let n : count s ≡ count v * w = whole (count s) 1 w (count v) some (c ∙ sym (one-mul w)) many in
-        at-least k (counting (k * w) w) (contraction (rank v) w s v vs vv (omega arith) cov-v some n (by-none (eqb-true (rank v) 0 z)) k h))
-        (λ z many k h. reads-one many k h)
+        ((some, n), λ k h. at-least k (counting (k * w) w) (contraction (rank v) w s v vs vv (omega arith) cov-v some n (by-none (eqb-true (rank v) 0 z)) k h)))
+        (λ z many. (many, reads-one many))
 
-    reads-sparse : Reads-by s v (contracted Sparse (shape-of s) (rank v))
-    reads-sparse many k h =
+    ranges-read : length (ranges (rank v) s) ≡ count v → (k : ℕ) → k < count v → between (getD (ranges (rank v) s) k (0, 0)) ≡ over-place (min (rank s) (rank v)) s (at v k)
+    ranges-read many k h =
         let r = getD (ranges (rank v) s) k (0, 0) in
         let g = range-of (rank v) s vs k (omega arith) in
         let below = g .some in
         let e : r .1 ≡ r .0 + (r .1 - r .0) = omega arith in
         let P : ℕ → Type 0 = λ y. Range (λ i. key (rank v) (at s i)) (count s) k (r .0) y in
         at-least k (between r) (ranging (rank v) s v vs vv (omega arith) cov-v k (r .0) (r .1 - r .0) h (subst P e g))
+
+    reads-sparse : Reads-by s v (contracted Sparse (shape-of s) (rank v))
+    reads-sparse many = ((many, λ k h. let g = range-of (rank v) s vs k (omega arith) in (g .some, g .ends)), ranges-read many)
 
     reads-contracted : (t : LayoutKind) → s .kind ≡ t → Reads-by s v (contracted t (shape-of s) (rank v))
     reads-contracted Dense d = reads-dense d
@@ -130,22 +133,22 @@ module _ (s v : Layout) (vs : Valid s) (vv : Valid v) (cov : Covered (min (rank 
     at-least-s k xs e = sym e ∙ ap (λ m. over-place m s (at v k)) least-s
 
     reads-each : Reads-by s v ElementWise
-    reads-each many k h =
+    reads-each many =
         let n : count v ≡ count s * 1 = sym many ∙ sym (mul-one (count s)) in
-        at-least-s k (k ∷ []) (spreading (rank s) 1 s v vs vv (omega arith) cov-s (omega arith) n (by-one refl) k h ∙ ap (λ y. y ∷ []) (div-one k))
+        (many, λ k h. at-least-s k (k ∷ []) (spreading (rank s) 1 s v vs vv (omega arith) cov-s (omega arith) n (by-one refl) k h ∙ ap (λ y. y ∷ []) (div-one k)))
 
     reads-spread : (t : LayoutKind) (b : ℕ) → v .kind ≡ t → Reads-in s v (spread t b (rank s) (shape-of v))
-    reads-spread Dense b d = λ many k h.
+    reads-spread Dense b d = λ many.
         let w = tail-size (rank s) (shape-of v .lengths) in
         let p = tail-padded (rank s) v in
         let some : 1 ≤ w = subst (λ y. 1 ≤ y) (sym p) (tail-some (rank s) (v .shape) (λ i. axis-small v vv i .0)) in
-        at-least-s k (k / w ∷ []) (spreading (rank s) w s v vs vv (omega arith) cov-s some (sym many) (by-dense d p) k h)
-    reads-spread Diagonal b d = λ many k h.
+        ((some, sym many), λ k h. at-least-s k (k / w ∷ []) (spreading (rank s) w s v vs vv (omega arith) cov-s some (sym many) (by-dense d p) k h))
+    reads-spread Diagonal b d = λ many.
         let w = axis (v .shape) 0 in
         let some = axis-small v vv 0 .0 in
         let c = diagonal-count v vv d in
         let one : count s ≡ 1 = sym (mul-div-cancel (count s) {n = w} some) ∙ ap (λ y. y / w) (many ∙ c) ∙ div-self some in
-        at-least-s k (k / w ∷ []) (spreading (rank s) w s v vs vv (omega arith) cov-s some (sym many) (by-single one) k h)
+        ((some, sym many), λ k h. at-least-s k (k / w ∷ []) (spreading (rank s) w s v vs vv (omega arith) cov-s some (sym many) (by-single one) k h))
     reads-spread Sparse b d = tt
 
     reads-widening : (t : ℕ) → Reads-in s v (widening t (rank s) (shape-of v))
@@ -164,7 +167,8 @@ pub lawful : (s v : Layout) (x : List ℤ) (g : Layout) (t : Translation) → Va
 lawful s v x g t vs vv vg h = record {
   as-many = h .as-many;
   covers = covered-says (min (rank s) (rank v)) s v (h .over);
-  reads = reads s v vs vv (covered-says (min (rank s) (rank v)) s v (h .over)) (t .from) (h .kind) (h .many);
+  divided = reads s v vs vv (covered-says (min (rank s) (rank v)) s v (h .over)) (t .from) (h .kind) (h .many) .0;
+  reads = reads s v vs vv (covered-says (min (rank s) (rank v)) s v (h .over)) (t .from) (h .kind) (h .many) .1;
   lands = λ k l. (let a = all-found (destination v x g) (count v) (t .to) (h .goes) k l in (a .0, a .1, strict-says g (shift x (at v k)) (a .0) (a .1) .1));
   rises = rise v x g vv vg (h .low);
   together = in-a-row (destination v x g) (count v) (t .to) (h .goes) (vv .some);

@@ -1,7 +1,7 @@
 -- What an accepted translation is good for.
 use mathlib.Core.Path.{_≡_}
 use mathlib.Core.List.{List, [], _∷_}
-use Prim.Native.Nat.{ℕ, _+_, _-_, _*_, _/_, _<_, min}
+use Prim.Native.Nat.{ℕ, _+_, _-_, _*_, _/_, _<_, _≤_, min}
 use lib.IntN.{ℤ}
 use lib.ListN.{length, getD}
 use Rattle.std.specs.Iters.{counting}
@@ -37,10 +37,22 @@ taken (SparseContraction by) s v k = between (getD (ranges (rank v) s) k (0, 0))
 taken ElementWise s v k = k ∷ []
 taken (Broadcast by long) s v k = k / long ∷ []
 
+-- how a source's elements are divided among the places of a via: in runs of a length, in ranges, one for each, or each for a run of places
+abbrev pub Divided : TranslationFrom → Layout → Layout → Type 0
+Divided (DenseContraction by long) s v = (1 ≤ long) × (count s ≡ count v * long)
+Divided (DiagonalContraction by) s v = count s ≡ count v
+Divided (SparseContraction by) s v =
+    (length (ranges (rank v) s) ≡ count v)
+    × ((k : ℕ) → k < count v → (getD (ranges (rank v) s) k (0, 0) .0 < getD (ranges (rank v) s) k (0, 0) .1) × (getD (ranges (rank v) s) k (0, 0) .1 ≤ count s))
+Divided ElementWise s v = count s ≡ count v
+Divided (Broadcast by long) s v = (1 ≤ long) × (count v ≡ count s * long)
+
 -- A translation t of a source s by way of a via v that begins at x in a target g
 pub record Lawful (s v : Layout) (x : List ℤ) (g : Layout) (t : Translation) : Type 0 where
   -- as many elements are made as the via has places
   pub as-many : t .elements ≡ count v
+  -- the source's elements are divided among the via's places
+  pub divided : Divided (t .from) s v
   -- every source place lies over a via place, and every via place under a source place
   pub covers : Covered (min (rank s) (rank v)) s v
   -- the reader takes for each via place exactly the source places that lie over it
