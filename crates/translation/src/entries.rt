@@ -212,7 +212,7 @@ fn write_entries<C: Catalogue>(
 }
 
 /// Whether a table of a length has room for some entries at a position.
-fn has_room(length: usize, at: usize, need: usize) -> bool
+pub fn has_room(length: usize, at: usize, need: usize) -> bool
     ensures { λ r. ⌜ r ≡ leb (at + need) length ⌝ }
 {
     need <= length && at <= length - need

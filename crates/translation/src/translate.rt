@@ -178,6 +178,7 @@ impl Translation {
         ensures is { λ r. ⌜ r ≡ translated (layouts (now (catalogue .entry))) source via start target ⌝ }
         ensures lawful { λ r. ⌜ made-so r (LawfulIn (layouts (now (catalogue .entry))) source via start target) ⌝ }
         ensures over { λ _. ⌜ Over-listed ⌝ }
+        ensures valid { λ _. ⌜ AllValid (layouts (now (catalogue .entry))) ⌝ }
     {
         outcome(catalogue, source, via, start, target)
     }
