@@ -49,15 +49,15 @@ module _ (a : ℕ → ℕ) (n : ℕ) (b : ℕ → ℕ) (k : ℕ) (g : Grouped a 
       let u = g .under 0 (omega (arith, o .1)) in
       let f = g .level 0 (u .0) (omega arith) (u .1) in
       elim (cases-order 0 (o .0)) [
-        inl e ↦ (omega (arith, o .1), o .2 ∙ ap b (sym e))
-      | inr q ↦ elim q [ inl m ↦ absurd (let r = g .rises 0 (o .0) m (o .1) in omega (arith, o .2, u .2)) | inr m ↦ absurd (omega arith) ]
+        | inl e ↦ (omega (arith, o .1), o .2 ∙ ap b (sym e))
+        | inr q ↦ elim q [ inl m ↦ absurd (let r = g .rises 0 (o .0) m (o .1) in omega (arith, o .2, u .2)) | inr m ↦ absurd (omega arith) ]
       ]
   at-changes (suc i) h =
       let p = at-changes i (omega arith) in
       let c = changes a i in
       elim (cases-bool (eqb (a i) (a (suc i)))) [
-        inl t ↦ rw t (let z : changes a i + 0 ≡ changes a i = omega arith in rw z (p .0, sym (eqb-true (a i) (a (suc i)) t) ∙ p .1))
-      | inr t ↦ rw t (step i (changes a i) h (p .0) (p .1) (eqb-false (a i) (a (suc i)) t))
+        | inl t ↦ rw t (let z : changes a i + 0 ≡ changes a i = omega arith in rw z (p .0, sym (eqb-true (a i) (a (suc i)) t) ∙ p .1))
+        | inr t ↦ rw t (step i (changes a i) h (p .0) (p .1) (eqb-false (a i) (a (suc i)) t))
       ]
 
   pub changes-rise : (i j : ℕ) → i ≤ j → changes a i ≤ changes a j
@@ -79,8 +79,8 @@ module _ (a : ℕ → ℕ) (n : ℕ) (b : ℕ → ℕ) (k : ℕ) (g : Grouped a 
     slow : (i : ℕ) → suc i < n → changes a (suc i) + i / l ≤ changes a i + suc i / l
     slow i h =
         elim (quotient-step i) [
-          inl e ↦ (let f = eq-eqb (a i) (a (suc i)) (runs i h (sym e)) in rw f (omega arith))
-        | inr m ↦ (let f = cond-most (eqb (a i) (a (suc i))) in omega arith)
+          | inl e ↦ (let f = eq-eqb (a i) (a (suc i)) (runs i h (sym e)) in rw f (omega arith))
+          | inr m ↦ (let f = cond-most (eqb (a i) (a (suc i))) in omega arith)
         ]
 
     slower : (i j : ℕ) → i ≤ j → j < n → changes a j + i / l ≤ changes a i + j / l

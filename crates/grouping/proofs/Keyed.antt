@@ -53,8 +53,8 @@ key-agree (suc (suc (suc (suc m)))) p q s t e = let a : p .a ≡ q .a = omega ar
 pub axis-small : (l : Layout) → Valid l → (i : ℕ) → (1 ≤ axis (l .shape) i) × (axis (l .shape) i ≤ 4096)
 axis-small l v i =
     elim (cases-lt i (length (l .shape))) [
-      inl h ↦ all-getD (λ n. (1 ≤ n) × (n ≤ 4096)) (l .shape) i 1 h (v .axes)
-    | inr h ↦ (let e = getD-past (l .shape) i 1 h in omega arith)
+      | inl h ↦ all-getD (λ n. (1 ≤ n) × (n ≤ 4096)) (l .shape) i 1 h (v .axes)
+      | inr h ↦ (let e = getD-past (l .shape) i 1 h in omega arith)
     ]
 
 pub inside-at : (l : Layout) → Valid l → (i : ℕ) → i < count l → Inside (l .shape) (at l i)
@@ -97,8 +97,8 @@ module _ (l : Layout) (v : Valid l) (m : ℕ) where
   pub keys-level : (i j : ℕ) → i ≤ j → j < count l → key m (at l i) ≤ key m (at l j)
   keys-level i j h n =
       elim (cases-order i j) [
-        inl e ↦ (let f = ap (λ i. key m (at l i)) e in omega arith)
-      | inr o ↦ elim o [ inl k ↦ key-level m (at l i) (at l j) (small-at l v i (omega arith)) (small-at l v j n) (v .ascending i j k n) | inr k ↦ absurd (omega arith) ]
+        | inl e ↦ (let f = ap (λ i. key m (at l i)) e in omega arith)
+        | inr o ↦ elim o [ inl k ↦ key-level m (at l i) (at l j) (small-at l v i (omega arith)) (small-at l v j n) (v .ascending i j k n) | inr k ↦ absurd (omega arith) ]
       ]
 
   pub keys-rise : rank l ≤ m → (i j : ℕ) → i < j → j < count l → key m (at l i) < key m (at l j)
@@ -107,8 +107,8 @@ module _ (l : Layout) (v : Valid l) (m : ℕ) where
       let p = inside-at l v i (omega arith) in
       let q = inside-at l v j n in
       elim (cases-order (key m (at l i)) (key m (at l j))) [
-        inl e ↦ absurd (before-other (at l i) (at l j) (v .ascending i j h n) (same-from-agree m (at l i) (at l j) (zero-inside l m r (at l i) p) (zero-inside l m r (at l j) q) (key-agree m (at l i) (at l j) (small-at l v i (omega arith)) (small-at l v j n) e)))
-      | inr o ↦ elim o [ inl x ↦ x | inr x ↦ absurd (omega arith) ]
+        | inl e ↦ absurd (before-other (at l i) (at l j) (v .ascending i j h n) (same-from-agree m (at l i) (at l j) (zero-inside l m r (at l i) p) (zero-inside l m r (at l j) q) (key-agree m (at l i) (at l j) (small-at l v i (omega arith)) (small-at l v j n) e)))
+        | inr o ↦ elim o [ inl x ↦ x | inr x ↦ absurd (omega arith) ]
       ]
 
 -- l is the layout with the longer row, r the other, which has no entries past m

@@ -109,20 +109,23 @@ module _ (s v : Layout) (x : List ℤ) (g : Layout) (table : List ℤ) (p : ℕ)
       ((t .0, omega (arith, t .0, l .2)), t .1)
   aims-by Listed is q some lands rises together listed =
       let there = λ (k : ℕ) (h : k < count v).
-          (let l = lands k h in let e : getD is (q + k) (pos 0) ≡ pos (l .0) = listed refl k h ∙ ap (λ o. pos (valueOr o 0)) (l .1) in e) in
-      ( ( (λ k h _.
-            let l = lands k h in
-            let e : entry is (q + k) ≡ l .0 = ap natural (there k h) in
-            record { at = there k h ∙ ap pos (sym e); inside = omega (arith, l .2) })
-        , λ j k l h _ z.
-            let h′ : j < count v = omega arith in
-            let a = lands j h′ in
-            let b = lands k h in
-            let r = rises j k l h (a .0) (b .0) (a .1) (b .1) in
-            let e : entry is (q + j) ≡ a .0 = ap natural (there j h′) in
-            let f : entry is (q + k) ≡ b .0 = ap natural (there k h) in
-            omega arith)
-      , λ k h. let l = lands k h in let e : entry is (q + k) ≡ l .0 = ap natural (there k h) in l .1 ∙ ap Some (sym e))
+      (let l = lands k h in let e : getD is (q + k) (pos 0) ≡ pos (l .0) = listed refl k h ∙ ap (λ o. pos (valueOr o 0)) (l .1) in e) in (
+        (
+          (λ k h _.
+              let l = lands k h in
+              let e : entry is (q + k) ≡ l .0 = ap natural (there k h) in
+              record { at = there k h ∙ ap pos (sym e); inside = omega (arith, l .2) }),
+          λ j k l h _ z.
+              let h′ : j < count v = omega arith in
+              let a = lands j h′ in
+              let b = lands k h in
+              let r = rises j k l h (a .0) (b .0) (a .1) (b .1) in
+              let e : entry is (q + j) ≡ a .0 = ap natural (there j h′) in
+              let f : entry is (q + k) ≡ b .0 = ap natural (there k h) in
+              omega arith,
+        ),
+        λ k h. let l = lands k h in let e : entry is (q + k) ≡ l .0 = ap natural (there k h) in l .1 ∙ ap Some (sym e),
+      )
 
   -- the entries as they stand in the table
   module _ (t : Translation) (vs : Valid s) (vv : Valid v) (vg : Valid g) (law : Lawful s v x g t) (room : p + data-count t ≤ length table) (few : p + data-count t ≤ 4194304) where

@@ -184,6 +184,6 @@ agree-index m p q e = take-map pos m (entries p) ∙ ap (map pos) e ∙ sym (tak
 pub begins-cut : (m : ℕ) (p q : Place) (r : Bool) → Decides r (take m (index-of p) ≡ take m (index-of q) → ⊥) → r ≡ not (agrees m p q)
 begins-cut m p q r d =
     elim (cases-bool (agrees m p q)) [
-      inl t ↦ rw t (elim (cases-bool r) [ inl y ↦ absurd (d .0 y (agree-index m p q (agrees-true m p q t))) | inr n ↦ n ])
-    | inr f ↦ rw f (d .1 (λ e. agrees-false m p q f (index-agree m p q e)))
+      | inl t ↦ rw t (elim (cases-bool r) [ inl y ↦ absurd (d .0 y (agree-index m p q (agrees-true m p q t))) | inr n ↦ n ])
+      | inr f ↦ rw f (d .1 (λ e. agrees-false m p q f (index-agree m p q e)))
     ]

@@ -29,7 +29,7 @@ use Rattle.translation.specs.declared.kinds.TranslationFault.{TranslationFault
 use Rattle.translation.specs.declared.kinds.TranslationFault.the-variants.{Unknown, Start, Short}
 use Rattle.translation.specs.Froms.{contracted, taken-up, spread, widening, from-of, Long}
 use Rattle.translation.specs.Tos.{start-refused}
-use Rattle.translation.specs.Outcome.{translated-by, translating, known, measured, translated, or-refused, from-asked}
+use Rattle.translation.specs.Outcome.{translated-by, translating, known, measured, translated, or-refused, from-between, from-asked}
 use Rattle.translation.specs.Entries.{entries-of, appending}
 
 by-test : (b : Bool) (s t : Shape) → Ok s ≡ cond b (Ok t) (Err Unknown) → (b ≡ true) × (s ≡ t)
@@ -113,13 +113,13 @@ translates ls source via target x s v t b o es ev et eb eo =
     ∙ outcome-known ls source via target x (ms .0) (mv .0) (mt .0)
 
 -- both shapes are measured, and the kind is had from them
-pub asks : (ls : List Layout) (source via : ℕ) (s v : Shape) (o : Option TranslationFrom) → Ok s ≡ measured ls source → Ok v ≡ measured ls via → o ≡ from-of s v → or-refused o ≡ from-asked ls source via
+pub asks : (ls : List Layout) (source via : ℕ) (s v : Shape) (o : Option TranslationFrom) → Ok s ≡ measured ls source → Ok v ≡ measured ls via → o ≡ from-of s v → or-refused o (getD ls source blank) (getD ls via blank) ≡ from-asked ls source via
 asks ls source via s v o es ev eo =
     let ms = measured-says ls source s es in
     let mv = measured-says ls via v ev in
     let fo : o ≡ from-of (shape-of (getD ls source blank)) (shape-of (getD ls via blank)) = eo ∙ ap (λ (y : Shape). from-of y v) (ms .1) ∙ ap (from-of (shape-of (getD ls source blank))) (mv .1) in
     let k : (known ls source && known ls via) ≡ true = ap (λ y. y && known ls via) (lt-ltb source (length ls) (ms .0)) ∙ lt-ltb via (length ls) (mv .0) in
-    ap or-refused fo ∙ ap (λ y. cond y (or-refused (from-of (shape-of (getD ls source blank)) (shape-of (getD ls via blank)))) (Err Unknown)) (sym k)
+    ap (λ y. or-refused y (getD ls source blank) (getD ls via blank)) fo ∙ ap (λ y. cond y (from-between (getD ls source blank) (getD ls via blank)) (Err Unknown)) (sym k)
 
 -- entries of layouts that are known, by whether there is room for them
 pub appends : (ls : List Layout) (t : Translation) (source via target : ℕ) (x : List ℤ) (n at : ℕ) (b : Bool) → source < length ls → via < length ls → target < length ls → leb (at + length (entries-of ls t source via x target)) n ≡ b → cond b (Ok (at + length (entries-of ls t source via x target))) (Err Short) ≡ appending ls t source via x target n at

@@ -13,6 +13,7 @@ use Rattle.layout.specs.Layouts.{Layout, blank, count, rank}
 use Rattle.layout.specs.declared.shape.Shape.{Shape}
 use Rattle.layout.specs.Answers.{shape-of}
 use Rattle.translation.specs.declared.kinds.TranslationFrom.{TranslationFrom}
+use Rattle.translation.specs.declared.kinds.TranslationFrom.the-variants.{DenseContraction, DiagonalContraction, SparseContraction, ElementWise, Broadcast}
 use Rattle.translation.specs.declared.kinds.TranslationTo.{TranslationTo}
 use Rattle.translation.specs.declared.kinds.Translation.{Translation}
 use Rattle.translation.specs.declared.kinds.TranslationFault.{TranslationFault}
@@ -52,10 +53,21 @@ abbrev pub translated : List Layout → ℕ → ℕ → List ℤ → ℕ → Res
 translated ls source via start target =
     cond (known ls source && (known ls via && known ls target)) (translating (getD ls source blank) (getD ls via blank) start (getD ls target blank)) (Err Unknown)
 
--- how a source makes the elements of a via: refusals 1 and 4
-abbrev pub or-refused : Option TranslationFrom → Result TranslationFrom TranslationFault
-or-refused None = Err NoTranslation
-or-refused (Some f) = Ok f
+-- the ranges of a sparse contraction are as many as the via's places
+abbrev pub ranges-fit : TranslationFrom → Layout → Layout → Bool
+ranges-fit (DenseContraction by long) s v = true
+ranges-fit (DiagonalContraction by) s v = true
+ranges-fit (SparseContraction by) s v = eqb (length (ranges (rank v) s)) (count v)
+ranges-fit ElementWise s v = true
+ranges-fit (Broadcast by long) s v = true
+
+-- how a source makes the elements of a via by itself: refusals 1 and 4, and 5 where ranges and places differ in number
+abbrev pub or-refused : Option TranslationFrom → Layout → Layout → Result TranslationFrom TranslationFault
+or-refused None s v = Err NoTranslation
+or-refused (Some f) s v = cond (ranges-fit f s v) (Ok f) (Err Elements)
+
+abbrev pub from-between : Layout → Layout → Result TranslationFrom TranslationFault
+from-between s v = or-refused (from-of (shape-of s) (shape-of v)) s v
 
 abbrev pub from-asked : List Layout → ℕ → ℕ → Result TranslationFrom TranslationFault
-from-asked ls source via = cond (known ls source && known ls via) (or-refused (from-of (shape-of (getD ls source blank)) (shape-of (getD ls via blank)))) (Err Unknown)
+from-asked ls source via = cond (known ls source && known ls via) (from-between (getD ls source blank) (getD ls via blank)) (Err Unknown)

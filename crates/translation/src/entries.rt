@@ -139,8 +139,8 @@ fn from_len<C: Catalogue>(
     ensures bound { λ r. ⌜ r ≤ 131072 ⌝ }
 {
     match from {
-        TranslationFrom::SparseContraction { contract_by: _ } =>
-            2 * count_ranges(catalogue, via_rank, source, count),
+        TranslationFrom::SparseContraction { contract_by: _ } => 2
+            * count_ranges(catalogue, via_rank, source, count),
         TranslationFrom::DenseContraction {
             contract_by: _,
             contract_len: _,
@@ -241,5 +241,14 @@ pub fn to_data_layout<C: Catalogue>(
     if !has_room(table.len(), at, need) {
         return Err(TranslationFault::Short);
     }
-    Ok(write_entries(catalogue, translation, source, via, start, target, table, at))
+    Ok(write_entries(
+        catalogue,
+        translation,
+        source,
+        via,
+        start,
+        target,
+        table,
+        at,
+    ))
 }

@@ -38,7 +38,12 @@ fn feed<C: Catalogue>(catalogue: &C, cutting: &mut Cutting, layout: usize, i: us
 }
 
 /// How many ranges a layout's places make, cut wherever the first `m` entries change.
-pub(crate) fn count_ranges<C: Catalogue>(catalogue: &C, m: usize, layout: usize, count: usize) -> usize
+pub(crate) fn count_ranges<C: Catalogue>(
+    catalogue: &C,
+    m: usize,
+    layout: usize,
+    count: usize,
+) -> usize
     requires known { ⌜ layout < length (layouts (now catalogue)) ⌝ }
     requires counted { ⌜ count ≡ place-count (getD (layouts (now catalogue)) layout blank) ⌝ }
     requires some { ⌜ 1 ≤ count ⌝ }

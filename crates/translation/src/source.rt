@@ -50,8 +50,11 @@ fn axes_taken(source: LayoutKind, via: LayoutKind, rank: usize) -> usize
     ensures { λ r. ⌜ r ≡ taken-up source via rank ⌝ }
 {
     match (source, via) {
-        (LayoutKind::Dense, LayoutKind::Diagonal) | (LayoutKind::Dense, LayoutKind::Sparse) => 2 * rank,
-        (LayoutKind::Dense, LayoutKind::Dense) | (LayoutKind::Diagonal, _) | (LayoutKind::Sparse, _) => rank,
+        (LayoutKind::Dense, LayoutKind::Diagonal) | (LayoutKind::Dense, LayoutKind::Sparse) => 2
+            * rank,
+        (LayoutKind::Dense, LayoutKind::Dense)
+        | (LayoutKind::Diagonal, _)
+        | (LayoutKind::Sparse, _) => rank,
     }
 }
 

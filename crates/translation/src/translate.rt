@@ -5,13 +5,13 @@ ghost use Prim.Native.Nat.{ℕ, _<_, _≤_, _+_, _^_, min};
 ghost use lib.ListN.{length, getD};
 ghost use Rattle.std.specs.Options.{Cases};
 ghost use Rattle.std.specs.declared.option.Option.the-variants.{Some};
-ghost use Rattle.layout.specs.Layouts.{AllValid, blank, rank, count as place-count};
+ghost use Rattle.layout.specs.Layouts.{Layout, AllValid, blank, rank, count as place-count};
 ghost use Rattle.layout.specs.Answers.{shape-of};
 ghost use Rattle.translation.specs.Cuts.{covered, ranges};
 ghost use Rattle.translation.specs.Froms.{from-of, elements-of, Long};
 ghost use Rattle.std.specs.Vec.{made as made-so};
 ghost use Rattle.translation.specs.Laws.{LawfulIn, Over-listed};
-ghost use Rattle.translation.specs.Outcome.{measured as measure-of, from-asked, translated-by, translated};
+ghost use Rattle.translation.specs.Outcome.{measured as measure-of, ranges-fit as fit-of, from-asked, translated-by, translated};
 use crate::agree::covers;
 use crate::faults::TranslationFromLayout;
 use crate::kinds::Translation;
@@ -26,7 +26,10 @@ use layout::index::Index;
 use layout::shape::Shape;
 
 /// The shape of a layout that exists, in a catalogue of valid ones.
-pub(crate) fn measured<C: Catalogue>(catalogue: &C, layout: usize) -> Result<Shape, TranslationFault>
+pub(crate) fn measured<C: Catalogue>(
+    catalogue: &C,
+    layout: usize,
+) -> Result<Shape, TranslationFault>
     ensures is { λ r. ⌜ r ≡ measure-of (layouts (now (catalogue .entry))) layout ⌝ }
     ensures valid { λ _. ⌜ AllValid (layouts (now (catalogue .entry))) ⌝ }
 {
@@ -148,6 +151,39 @@ fn outcome<C: Catalogue>(
     }
 }
 
+/// Whether the ranges of a sparse contraction are as many as the via's places.
+fn ranges_fit<C: Catalogue>(
+    catalogue: &C,
+    from: TranslationFrom,
+    source: usize,
+    s: Shape,
+    v: Shape,
+) -> bool
+    requires source { ⌜ source < length (layouts (now catalogue)) ⌝ }
+    requires counted { ⌜ s .count ≡ place-count (getD (layouts (now catalogue)) source blank) ⌝ }
+    requires some { ⌜ 1 ≤ s .count ⌝ }
+    ensures { λ r. ⌜ ((via : Layout) → v ≡ shape-of via → r ≡ fit-of from (getD (layouts (now (catalogue .entry))) source blank) via) ⌝ }
+{
+    match from {
+        TranslationFrom::SparseContraction { contract_by: _ } => count_ranges(
+            catalogue,
+            v.rank,
+            source,
+            s.count,
+        ) == v.count,
+        TranslationFrom::DenseContraction {
+            contract_by: _,
+            contract_len: _,
+        }
+        | TranslationFrom::DiagonalContraction { contract_by: _ }
+        | TranslationFrom::ElementWise
+        | TranslationFrom::Broadcast {
+            broadcast_by: _,
+            broadcast_len: _,
+        } => true,
+    }
+}
+
 impl TranslationFrom {
     /// How a source makes the elements of a via.
     pub fn new<C: Catalogue>(
@@ -159,9 +195,13 @@ impl TranslationFrom {
     {
         let s = measured(catalogue, source)?;
         let v = measured(catalogue, via)?;
-        match from_shapes(s, v) {
-            Some(from) => Ok(from),
-            None => Err(TranslationFault::NoTranslation),
+        let Some(from) = from_shapes(s, v) else {
+            return Err(TranslationFault::NoTranslation);
+        };
+        if ranges_fit(catalogue, from, source, s, v) {
+            Ok(from)
+        } else {
+            Err(TranslationFault::Elements)
         }
     }
 }

@@ -13,9 +13,11 @@ use Rattle.translation.proofs.ranges.write_ranges.Needs.{then-feed, else-feed}
 
 pub loop-i-holds : need.loop-i-holds
 loop-i-holds g c =
-    let l = getD (g .C·Catalogue .layouts (c .args .catalogue .now)) (c .args .layout) blank in
-    ( c .feed-first .ensures .axes ∙ c .new-cutting .ensures .0, c .feed-first .ensures .last
-    , record { below = omega arith; is = paste-none (c .args .table .now) (c .args .at) (range-entries (ranges (c .args .m) l)); left = ap (λ n. range-entries (ranges-from (cut (c .args .m) l) 0 1 n)) (omega (arith, c .pre .counted)) })
+    let l = getD (g .C·Catalogue .layouts (c .args .catalogue .now)) (c .args .layout) blank in (
+      c .feed-first .ensures .axes ∙ c .new-cutting .ensures .0,
+      c .feed-first .ensures .last,
+      record { below = omega arith; is = paste-none (c .args .table .now) (c .args .at) (range-entries (ranges (c .args .m) l)); left = ap (λ n. range-entries (ranges-from (cut (c .args .m) l) 0 1 n)) (omega (arith, c .pre .counted)) },
+    )
 
 pub add-at : need.add-at
 add-at g c = let r = writing-room _ _ _ _ _ _ _ _ _ (c .loop-i .inv .2) in omega (arith, c .pre .room)
