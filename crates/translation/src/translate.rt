@@ -170,7 +170,8 @@ fn ranges_fit<C: Catalogue>(
             v.rank,
             source,
             s.count,
-        ) == v.count,
+        )
+            == v.count,
         TranslationFrom::DenseContraction {
             contract_by: _,
             contract_len: _,
