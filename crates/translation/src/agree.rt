@@ -2,6 +2,7 @@
 ghost use mathlib.Core.Path.{_≡_};
 ghost use mathlib.Core.Logic.{_⊎_};
 ghost use Prim.Native.Nat.{ℕ, _<_, _≤_, _+_};
+ghost use lib.IntN.{pos};
 ghost use lib.ListN.{length, getD, take};
 ghost use Rattle.std.specs.Options.{Cases};
 ghost use Rattle.std.specs.Orderings.{Decides};
@@ -12,12 +13,20 @@ ghost use Rattle.translation.specs.Cuts.{Steps};
 use layout::catalogue::Catalogue;
 use layout::index::Index;
 
+/// Whether entry `i` of two indices is the same, as far as it is among the first `m`.
+fn same_at(m: usize, p: Index, q: Index, i: usize) -> bool
+    requires { ⌜ i < 4 ⌝ }
+    ensures { λ r. ⌜ Decides r (i < m → getD p i (pos 0) ≡ getD q i (pos 0)) ⌝ }
+{
+    m <= i || p[i] == q[i]
+}
+
 /// Whether two indices agree on their first `m` entries.
 pub(crate) fn agree(m: usize, p: Index, q: Index) -> bool
     ensures { λ r. ⌜ Decides r (take m p ≡ take m q) ⌝ }
 {
     for i in 0..4 {
-        if i < m && p[i] != q[i] {
+        if !same_at(m, p, q, i) {
             return false;
         }
     }

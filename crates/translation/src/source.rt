@@ -24,6 +24,14 @@ fn tail_size(n: [usize; 4], m: usize) -> usize
     }
 }
 
+/// The length of the axes of a diagonal shape.
+fn diagonal_length(shape: Shape) -> usize
+    requires { ⌜ ((i : ℕ) → getD (shape .lengths) i 0 ≤ 4096) ⌝ }
+    ensures { λ r. ⌜ r ≡ getD (shape .lengths) 0 0 ⌝ }
+{
+    shape.lengths[0]
+}
+
 fn contraction(source: Shape, via_rank: usize) -> TranslationFrom
     requires lengths { ⌜ ((i : ℕ) → getD (source .lengths) i 0 ≤ 4096) ⌝ }
     requires higher { ⌜ «via_rank» < source .rank ⌝ }
@@ -37,7 +45,7 @@ fn contraction(source: Shape, via_rank: usize) -> TranslationFrom
         },
         LayoutKind::Diagonal if via_rank == 0 => TranslationFrom::DenseContraction {
             contract_by,
-            contract_len: source.lengths[0],
+            contract_len: diagonal_length(source),
         },
         LayoutKind::Diagonal => TranslationFrom::DiagonalContraction { contract_by },
         LayoutKind::Sparse => TranslationFrom::SparseContraction { contract_by },
@@ -69,7 +77,7 @@ fn broadcast(broadcast_by: usize, source_rank: usize, via: Shape) -> Option<Tran
         }),
         LayoutKind::Diagonal => Some(TranslationFrom::Broadcast {
             broadcast_by,
-            broadcast_len: via.lengths[0],
+            broadcast_len: diagonal_length(via),
         }),
         LayoutKind::Sparse => None,
     }

@@ -7,12 +7,23 @@ ghost use lib.ListN.{length, getD};
 ghost use Rattle.std.specs.shelf.Lists.{paste};
 ghost use Rattle.std.specs.Slices.{found};
 ghost use Rattle.std.specs.Options.{valueOr};
-ghost use Rattle.layout.specs.Layouts.{AllValid, blank, count as place-count};
+ghost use Rattle.layout.specs.Layouts.{AllValid, blank, strict, count as place-count};
 ghost use Rattle.translation.specs.Tos.{destination as destination-of, to-of, destination-entries};
 use crate::kinds::TranslationTo;
 use crate::start::shifted;
 use layout::catalogue::Catalogue;
 use layout::index::Index;
+
+/// The number of an index in a target, looked up strictly.
+fn number_in<C: Catalogue>(catalogue: &C, target: usize, index: Index) -> Option<usize>
+    requires { ⌜ target < length (layouts (now catalogue)) ⌝ }
+    ensures { λ r. ⌜ r ≡ strict (getD (layouts (now (catalogue .entry))) target blank) index ⌝ }
+{
+    match catalogue.number(target, index) {
+        Ok(number) => number,
+        Err(_) => None,
+    }
+}
 
 /// The target's place for place `k` of the via: start plus place, looked up strictly.
 pub(crate) fn destination<C: Catalogue>(
@@ -30,10 +41,7 @@ pub(crate) fn destination<C: Catalogue>(
     ensures within { λ r. ⌜ found r (λ n. n < 65536) ⌝ }
 {
     let (place, _) = catalogue.place(via, k);
-    match catalogue.number(target, shifted(start, place)) {
-        Ok(number) => number,
-        Err(_) => None,
-    }
+    number_in(catalogue, target, shifted(start, place))
 }
 
 impl TranslationTo {

@@ -1,17 +1,22 @@
-use mathlib.Core.Path.{_≡_, ap, refl}
-use mathlib.Core.Bool.{true, false}
+use mathlib.Core.Path.{_≡_, refl, sym, _∙_}
 use borrow.Author.Needs.{needs}
+use borrow.Author.Count.{below-more}
 use native.Mathlib.Omega.{arith}
-use lib.ListN.{length}
+use lib.ListN.{length, getD}
 use lib.IntN.{pos}
-use mir.Val.{ofZ}
-use mir.Syntax.{w64}
-use Rattle.std.proofs.shelf.Tests.{false≢true}
+use Prim.Native.Nat.{_<_}
+use Rattle.std.proofs.shelf.Tests.{false≢true, true≢false}
 use Rattle.translation.proofs.Fronts.{take-same, take-at-same}
 use Rattle.translation.proofs.agree.agree.Needs as need
 
-pub returns-then-p-i : need.returns-then-p-i
-returns-then-p-i c = (λ e. absurd (false≢true e), λ e. absurd (c .if-p-i .taken (ap (ofZ w64) (take-at-same (c .args .m) (c .args .p) (c .args .q) (c .loop-i .i) (pos 0) (c .if-i-m .taken) e))))
+pub returns-then-not-same-at : need.returns-then-not-same-at
+returns-then-not-same-at c = (
+  λ e. absurd (false≢true e),
+  λ e. absurd (false≢true (sym (c .if-not-same-at .taken) ∙ c .same-at .ensures .1 (λ h. take-at-same (c .args .m) (c .args .p) (c .args .q) (c .loop-i .i) (pos 0) h e))),
+)
+
+pub loop-i-again : need.loop-i-again
+loop-i-again c = below-more (λ k. k < c .args .m → getD (c .args .p) k (pos 0) ≡ getD (c .args .q) k (pos 0)) _ (c .loop-i .inv) (c .same-at .ensures .0 (c .if-not-same-at .left))
 
 pub returns : need.returns
 returns c =
