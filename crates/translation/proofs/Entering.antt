@@ -67,9 +67,6 @@ both-parts d e f xs ys at mid end room em ee en ef =
 pub shape-known : (ls : List Layout) (n : ℕ) (s : Shape) → Ok s ≡ shape-asked ls n → n < length ls → s ≡ shape-of (getD ls n blank)
 shape-known ls n s e h = let f = e ∙ cond-true (ltb n (length ls)) _ _ (lt-ltb n (length ls) h) in cc
 
-pub shape-not-known : (ls : List Layout) (n : ℕ) (r : LayoutFault) → Err r ≡ shape-asked ls n → n < length ls → ⊥
-shape-not-known ls n r e h = let f = e ∙ cond-true (ltb n (length ls)) _ _ (lt-ltb n (length ls) h) in let z : _≡_ {A = ℕ} 0 1 = cc in omega arith
-
 pub listed : (to : TranslationTo) (d : ℕ → Option ℕ) (n : ℕ) (t new : List ℤ) (at end : ℕ) → to ≡ Listed → end ≡ at + n → new ≡ paste t at (destination-entries d n) n → (end ≡ at + length (to-entries to d n)) × (new ≡ paste t at (to-entries to d n) (length (to-entries to d n)))
 listed to d n t new at end e en ew =
     let P : TranslationTo → Type 0 = λ to. (end ≡ at + length (to-entries to d n)) × (new ≡ paste t at (to-entries to d n) (length (to-entries to d n))) in

@@ -98,9 +98,3 @@ strict-within l x v = by (strict l x) refl where
 -- the answers of a catalogue at numbers that exist
 pub place-known : (ls : List Layout) (n k : ℕ) (r : List ℤ × Bool) → r ≡ place-asked ls n k → n < length ls → k < count (getD ls n blank) → r .0 ≡ index-of (at (getD ls n blank) k)
 place-known ls n k r e h g = ap (λ (z : List ℤ × Bool). z .0) (e ∙ cond-true (exists ls n k) _ _ (and-from _ _ (lt-ltb n (length ls) h) (lt-ltb k (count (getD ls n blank)) g)))
-
-pub number-known : (ls : List Layout) (n : ℕ) (x : List ℤ) (r : Option ℕ) → Ok r ≡ number-asked ls n x → n < length ls → r ≡ strict (getD ls n blank) x
-number-known ls n x r e h = let f = e ∙ cond-true (ltb n (length ls)) _ _ (lt-ltb n (length ls) h) in cc
-
-pub number-not-known : (ls : List Layout) (n : ℕ) (x : List ℤ) (r : LayoutFault) → Err r ≡ number-asked ls n x → n < length ls → ⊥
-number-not-known ls n x r e h = let f = e ∙ cond-true (ltb n (length ls)) _ _ (lt-ltb n (length ls) h) in let z : _≡_ {A = ℕ} 0 1 = cc in omega arith
