@@ -22,8 +22,9 @@ use Rattle.layout.specs.Radix.{size, ravel, unravel, every, diagonal, along}
 use Rattle.layout.proofs.Radix.{every-length, every-at, ravel-below, unravel-ravel}
 use Rattle.layout.proofs.Finding.{inside-says, strict-absent, strict-outside, strict-inside}
 use Rattle.grid.specs.declared.shapes.GridShape.{GridShape}
-use Rattle.grid.specs.Grids.{grid-shape, grid-places, grid-layout, sound, sound-axes, sound-kind}
-use Rattle.grid.proofs.Validity.{axes-say, grid-valid, along-is}
+use Rattle.layout.specs.Rules.{equal-axes}
+use Rattle.grid.specs.Grids.{grid-shape, grid-places, grid-layout, sound}
+use Rattle.grid.proofs.Validity.{axes-say, grid-valid, sound-says, along-is}
 
 abbrev pub fours : List ℕ → List ℕ
 fours s = axis s 0 ∷ axis s 1 ∷ axis s 2 ∷ axis s 3 ∷ []
@@ -36,17 +37,11 @@ pub got-none : (o : Option Place) → None ≡ mapped entries o → o ≡ None
 got-none (Some p) h = absurd (let z : _≡_ {A = ℕ} 0 1 = cc in omega arith)
 got-none None h = refl
 
-pub sound-parts : (g : GridShape) → sound g ≡ true → (g .rank ≤ 4) × (sound-axes (grid-shape g) ≡ true) × (sound-kind (g .kind) (grid-shape g) ≡ true)
-sound-parts g h =
-    let p = and-parts (leb (g .rank) 4) (sound-axes (grid-shape g) && sound-kind (g .kind) (grid-shape g)) h in
-    let q = and-parts (sound-axes (grid-shape g)) (sound-kind (g .kind) (grid-shape g)) (p .1) in
-    (leb-true (g .rank) 4 (p .0), q .0, q .1)
-
 pub axes-sound : (g : GridShape) → sound g ≡ true → (i : ℕ) → i < 4 → (1 ≤ axis (grid-shape g) i) × (axis (grid-shape g) i ≤ 4096)
-axes-sound g h = axes-say (grid-shape g) (sound-parts g h .1)
+axes-sound g h = axes-say (grid-shape g) (sound-says g h .axes)
 
 pub rank-is : (g : GridShape) → sound g ≡ true → length (g .lengths) ≡ 4 → rank (grid-layout g) ≡ g .rank
-rank-is g h n = let r = sound-parts g h .0 in simp length-take (omega arith)
+rank-is g h n = let r = sound-says g h .ranked in simp length-take (omega arith)
 
 pub count-dense : (g : GridShape) → g .kind ≡ Dense → count (grid-layout g) ≡ size (grid-shape g)
 count-dense g e = ap (λ k. length (grid-places k (grid-shape g))) e ∙ every-length (grid-shape g)
@@ -120,10 +115,9 @@ module _ (g : GridShape) (ok : sound g ≡ true) (four : length (g .lengths) ≡
   number-on e d h v =
       let q = got e h in
       let s = grid-shape g in
-      let o = sound-parts g ok in
       let v′ : Level (g .rank) (q .0) = subst (λ t. Level (g .rank) (entries-place t)) (q .1) v in
       let v″ : Level (length s) (q .0) = subst (λ r. Level r (q .0)) (sym (rank-is g ok four)) v′ in
-      let m = along-is s (simp length-take (omega arith)) (o .1) (subst (λ k. sound-kind k s ≡ true) d (o .2)) (q .0) (q .2) v″ in
+      let m = along-is s (q .0) (q .2) v″ in
       let f = strict-inside (grid-layout g) x (q .0) (q .0 .a) (grid-valid g ok) (q .3) (rw (count-diagonal g d) (q .2 .0)) (at-diagonal g (q .0 .a) d (q .2 .0) ∙ m) in
       ap (λ t. Some (getD t 0 0)) (q .1) ∙ sym f
 

@@ -16,7 +16,7 @@ use Rattle.layout.specs.declared.kind.LayoutKind.the-variants.{Dense, Diagonal,
 use Rattle.layout.specs.Places.{Place, axis}
 use Rattle.layout.specs.Layouts.{Layout}
 use Rattle.layout.specs.Radix.{size, every, diagonal}
-use Rattle.layout.specs.Rules.{first-broken, none, axes-in-range, some-axes, equal-axes}
+use Rattle.layout.specs.Rules.{Test, first-broken, none, axes-in-range, some-axes, equal-axes}
 use Rattle.grid.specs.declared.shapes.GridShape.{GridShape}
 
 abbrev pub grid-shape : GridShape → List ℕ
@@ -30,16 +30,22 @@ grid-places Sparse s = []
 abbrev pub grid-layout : GridShape → Layout
 grid-layout g = record { kind = g .kind; shape = grid-shape g; places = grid-places (g .kind) (grid-shape g) }
 
--- the first rule that a shape breaks: a grid has no sparse layouts, a dense layout at most 65,536 places, a diagonal one an axis and equal lengths
-abbrev pub broken-by : LayoutKind → GridShape → Option Rule
-broken-by Dense g =
-    first-broken (record { kept = leb (g .rank) 4; rule = rule.Rank } ∷ record { kept = axes-in-range (grid-shape g); rule = rule.Length } ∷ record { kept = leb (size (grid-shape g)) 65536; rule = rule.Count } ∷ [])
-broken-by Diagonal g =
-    first-broken (record { kept = some-axes (g .rank); rule = rule.Rank } ∷ record { kept = axes-in-range (grid-shape g); rule = rule.Length } ∷ record { kept = equal-axes (g .rank) (grid-shape g); rule = rule.Axes } ∷ [])
-broken-by Sparse g = Some rule.Kind
+-- the rules on a shape: a grid has no sparse layouts, a dense layout has at most 65,536 places, a diagonal one an axis or more, of one length
+abbrev pub tests : LayoutKind → GridShape → List Test
+tests Dense g =
+    record { kept = leb (g .rank) 4; rule = rule.Rank }
+    ∷ record { kept = axes-in-range (grid-shape g); rule = rule.Length }
+    ∷ record { kept = leb (size (grid-shape g)) 65536; rule = rule.Count }
+    ∷ []
+tests Diagonal g =
+    record { kept = some-axes (g .rank) (grid-shape g); rule = rule.Rank }
+    ∷ record { kept = axes-in-range (grid-shape g); rule = rule.Length }
+    ∷ record { kept = equal-axes (length (grid-shape g)) (grid-shape g); rule = rule.Axes }
+    ∷ []
+tests Sparse g = record { kept = false; rule = rule.Kind } ∷ []
 
 abbrev pub broken : GridShape → Option Rule
-broken g = broken-by (g .kind) g
+broken g = first-broken (tests (g .kind) g)
 
 -- no rule is broken
 abbrev pub sound : GridShape → Bool

@@ -11,9 +11,9 @@ ghost use Rattle.layout.specs.Layouts.{at, strict};
 ghost use Rattle.layout.specs.Layouts.{count as places-count, Level};
 ghost use Rattle.layout.specs.Answers.{shape-of, index-of};
 ghost use Rattle.layout.specs.Radix.{size, ravel, unravel, along};
-ghost use Rattle.layout.specs.Rules.{in-range, axes-in-range, equal-axes};
+ghost use Rattle.layout.specs.Rules.{in-range, axes-in-range, equal-axes, first-broken};
 ghost use Rattle.layout.specs.declared.kind.LayoutKind.the-variants.{Dense, Diagonal};
-ghost use Rattle.grid.specs.Grids.{grid-shape, grid-layout, sound, broken, broken-by};
+ghost use Rattle.grid.specs.Grids.{grid-shape, grid-layout, sound, broken, tests};
 use layout::fault::Rule;
 use layout::index::Index;
 use layout::index::entries_inside;
@@ -87,7 +87,7 @@ fn axes_equal(rank: usize, n: [usize; 4]) -> bool
 }
 
 fn broken_dense(g: GridShape) -> Option<Rule>
-    ensures { λ r. ⌜ r ≡ broken-by Dense g ⌝ }
+    ensures { λ r. ⌜ r ≡ first-broken (tests Dense g) ⌝ }
 {
     if g.rank > 4 {
         return Some(Rule::Rank);
@@ -100,7 +100,7 @@ fn broken_dense(g: GridShape) -> Option<Rule>
 }
 
 fn broken_diagonal(g: GridShape) -> Option<Rule>
-    ensures { λ r. ⌜ r ≡ broken-by Diagonal g ⌝ }
+    ensures { λ r. ⌜ r ≡ first-broken (tests Diagonal g) ⌝ }
 {
     if g.rank < 1 || g.rank > 4 {
         return Some(Rule::Rank);

@@ -2,10 +2,12 @@
 use mathlib.Core.Path.{_≡_}
 use mathlib.Core.List.{List, [], _∷_}
 use mathlib.Core.Bool.{Bool, true, false, cond, _&&_}
-use Prim.Native.Nat.{ℕ}
+use Prim.Native.Nat.{ℕ, _<_}
 use lib.Dec.{ltb}
 use lib.IntN.{ℤ, pos}
 use lib.ListN.{length, getD}
+use Rattle.std.specs.Orderings.{Decides}
+use Rattle.std.specs.Results.{Cases}
 use Rattle.std.specs.declared.option.Option.{Option}
 use Rattle.std.specs.declared.result.Result.{Result}
 use Rattle.std.specs.declared.result.Result.the-variants.{Ok, Err}
@@ -41,3 +43,10 @@ number-asked ls n x = asked (λ l. strict l x) ls n
 
 abbrev pub wide-asked : List Layout → ℕ → List ℤ → Result (Option ℕ) LayoutFault
 wide-asked ls n x = asked (λ l. wide l x) ls n
+
+-- whether two layouts that there are have the same kind, shape and places
+abbrev pub Same-asked : List Layout → ℕ → ℕ → Result Bool LayoutFault → Type 0
+Same-asked ls a b r =
+    Cases r
+    (λ t. (a < length ls) × (b < length ls) × Decides t (getD ls a blank ≡ getD ls b blank))
+    (λ f. (f ≡ Unknown) × (a < length ls → b < length ls → ⊥))

@@ -35,9 +35,9 @@ axes-in-range s = ((in-range (axis s 0) && in-range (axis s 1)) && in-range (axi
 abbrev pub count-in-range : ℕ → Bool
 count-in-range n = leb 1 n && leb n 65536
 
--- one axis to four
-abbrev pub some-axes : ℕ → Bool
-some-axes r = leb 1 r && leb r 4
+-- one axis to four, where r are asked for and s has the lengths
+abbrev pub some-axes : ℕ → List ℕ → Bool
+some-axes r s = leb 1 (length s) && leb r 4
 
 -- the first r axes are of one length
 abbrev pub equal-axes : ℕ → List ℕ → Bool

@@ -1,30 +1,37 @@
--- Where a place's entries stand in the pool.
-use mathlib.Core.Path.{_≡_, ap}
+-- Where a place's entries stand in the pool, and the turns of the search.
+use mathlib.Core.Path.{_≡_, sym, ap, subst, _∙_}
 use mathlib.Core.List.{List}
+use mathlib.Core.Logic.{_⊎_, inl, inr}
 use Prim.Native.Nat.{ℕ, _+_, _*_, _<_, _≤_}
 use native.Mathlib.Omega.{arith}
 use native.Mathlib.Nat.{mul-le-mul-right, add-mul}
 use lib.ListN.{length, getD}
-use mathlib.Core.Logic.{inl, inr}
 use Rattle.std.proofs.shelf.Tests.{cases-order}
-use Rattle.layout.specs.Places.{Place, entries}
-use Rattle.grouping.specs.Keys.{key}
-use Rattle.table.specs.declared.records.LayoutRecord.{LayoutRecord}
-use Rattle.table.specs.Records.{record-place, Ordered, place-of}
+use Rattle.layout.specs.Places.{Place, Before, entries}
+use Rattle.layout.proofs.Order.{before-trans}
+use Rattle.table.specs.declared.record.LayoutRecord.{LayoutRecord}
+use Rattle.table.specs.Records.{record-place, Ascending, place-of}
 
 pub row-fits : (k n w : ℕ) → k < n → k * w + w ≤ n * w
 row-fits k n w h = omega (arith, mul-le-mul-right w h, add-mul k 1 w)
 
-pub rising-le : (pool : List ℕ) (r : LayoutRecord) → Ordered pool r → (j k : ℕ) → j ≤ k → k < r .count → key 4 (record-place pool r j) ≤ key 4 (record-place pool r k)
-rising-le pool r o j k h l = elim (cases-order j k) [ inl e ↦ (let f = ap (λ i. key 4 (record-place pool r i)) e in omega arith) | inr q ↦ elim q [ inl m ↦ (let f = o .rising j k m l in omega arith) | inr m ↦ absurd (omega arith) ] ]
-
 -- a turn of the search: q is the place in the middle, as it was read
-module _ (pool : List ℕ) (r : LayoutRecord) (o : Ordered pool r) (p q : List ℕ) (mid : ℕ) (in-row : mid < r .count) (e : q ≡ entries (record-place pool r mid)) where
-  at-mid : key 4 (place-of q) ≡ key 4 (record-place pool r mid)
-  at-mid = ap (λ t. key 4 (place-of t)) e
+module _ (pool : List ℕ) (r : LayoutRecord) (up : Ascending pool r) (p : Place) (q : List ℕ) (mid : ℕ) (in-row : mid < r .count) (e : q ≡ entries (record-place pool r mid)) where
+  at-mid : place-of q ≡ record-place pool r mid
+  at-mid = ap place-of e
 
-  pub below-mid : key 4 (place-of q) < key 4 (place-of p) → (k : ℕ) → k < mid + 1 → key 4 (record-place pool r k) < key 4 (place-of p)
-  below-mid l k h = let f = rising-le pool r o k mid (omega arith) in-row in let g = at-mid in omega arith
+  pub below-mid : Before (place-of q) p → (k : ℕ) → k < mid + 1 → Before (record-place pool r k) p
+  below-mid l k h =
+      let m : Before (record-place pool r mid) p = subst (λ x. Before x p) at-mid l in
+      elim (cases-order k mid) [
+        inl i ↦ subst (λ j. Before (record-place pool r j) p) (sym i) m
+      | inr o ↦ elim o [ inl j ↦ before-trans _ _ _ (up k mid j in-row) m | inr j ↦ absurd (omega arith) ]
+      ]
 
-  pub above-mid : key 4 (place-of p) < key 4 (place-of q) → (k : ℕ) → mid ≤ k → k < r .count → key 4 (place-of p) < key 4 (record-place pool r k)
-  above-mid l k h n = let f = rising-le pool r o mid k h n in let g = at-mid in omega arith
+  pub above-mid : Before p (place-of q) → (k : ℕ) → mid ≤ k → k < r .count → Before p (record-place pool r k)
+  above-mid l k h n =
+      let m : Before p (record-place pool r mid) = subst (λ x. Before p x) at-mid l in
+      elim (cases-order k mid) [
+        inl i ↦ subst (λ j. Before p (record-place pool r j)) (sym i) m
+      | inr o ↦ elim o [ inl j ↦ absurd (omega arith) | inr j ↦ before-trans _ _ _ m (up mid k j n) ]
+      ]

@@ -16,7 +16,7 @@ use Rattle.layout.specs.declared.kind.LayoutKind.{LayoutKind}
 use Rattle.layout.specs.declared.kind.LayoutKind.the-variants.{Dense, Diagonal, Sparse}
 use Rattle.layout.specs.Places.{Place, place, Before, axis}
 use Rattle.layout.specs.Layouts.{Layout}
-use Rattle.layout.specs.Rules.{first-broken, none, axes-in-range, count-in-range, some-axes}
+use Rattle.layout.specs.Rules.{Test, first-broken, none, axes-in-range, count-in-range, some-axes}
 use Rattle.grid.specs.declared.shapes.GridShape.{GridShape}
 use Rattle.grid.specs.Grids.{grid-layout, broken}
 use Rattle.table.specs.declared.record.LayoutRecord.{LayoutRecord}
@@ -74,18 +74,21 @@ before-test p q = ltb (p .a) (q .a) || (eqb (p .a) (q .a) && (ltb (p .b) (q .b) 
 abbrev pub all-before : List ℕ → LayoutRecord → Bool
 all-before pool r = each-below (r .count - 1) (λ k. before-test (record-place pool r k) (record-place pool r (k + 1)))
 
--- the first rule that a record breaks
-abbrev pub sparse-broken : List ℕ → LayoutRecord → Option Rule
-sparse-broken pool r =
-    first-broken (
-      record { kept = some-axes (r .rank); rule = rule.Rank }
-      ∷ record { kept = axes-in-range (record-shape r); rule = rule.Length }
-      ∷ record { kept = count-in-range (r .count); rule = rule.Count }
-      ∷ record { kept = held pool r; rule = rule.Pool }
-      ∷ record { kept = all-inside pool r; rule = rule.Inside }
-      ∷ record { kept = all-before pool r; rule = rule.Order }
-      ∷ [])
+-- the rules on the record of a sparse layout
+abbrev pub sparse-tests : List ℕ → LayoutRecord → List Test
+sparse-tests pool r =
+    record { kept = some-axes (r .rank) (record-shape r); rule = rule.Rank }
+    ∷ record { kept = axes-in-range (record-shape r); rule = rule.Length }
+    ∷ record { kept = count-in-range (r .count); rule = rule.Count }
+    ∷ record { kept = held pool r; rule = rule.Pool }
+    ∷ record { kept = all-inside pool r; rule = rule.Inside }
+    ∷ record { kept = all-before pool r; rule = rule.Order }
+    ∷ []
 
+abbrev pub sparse-broken : List ℕ → LayoutRecord → Option Rule
+sparse-broken pool r = first-broken (sparse-tests pool r)
+
+-- the first rule that a record breaks
 abbrev pub broken-as : LayoutKind → List ℕ → LayoutRecord → Option Rule
 broken-as Dense pool r = broken (grid-of r)
 broken-as Diagonal pool r = broken (grid-of r)
