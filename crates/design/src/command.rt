@@ -1,4 +1,7 @@
 //! The lines of a design, by their first words.
+ghost use mathlib.Core.Path.{_≡_};
+ghost use Rattle.std.specs.Options.{Cases};
+ghost use Rattle.design.specs.Keywords.{command-word};
 
 /// What a line does.
 #[derive(Clone, Copy, PartialEq, Eq)]
@@ -18,7 +21,9 @@ pub enum Command {
 }
 
 /// The command that a word names.
-pub fn command_of(word: &str) -> Option<Command> {
+pub fn command_of(word: &str) -> Option<Command>
+    ensures { λ r. ⌜ Cases r ((c : Command) → command-word c ≡ now (word .entry) → ⊥) (λ c. command-word c ≡ now (word .entry)) ⌝ }
+{
     match word {
         "layout" => Some(Command::Layout),
         "find" => Some(Command::Find),

@@ -37,12 +37,14 @@ impl fmt::Display for What<'_> as WhatDisplay {
             What::End => write!(f, "the line ends here"),
             What::Unknown(word) => write!(f, "`{word}` is unknown"),
             What::Unread(word) => write!(f, "`{word}` lines are not read yet"),
-            What::NoNumber(word) => write!(f, "`{word}` is no whole number"),
+            What::NoNumber(word) => write!(f, "`{word}` is no number here"),
             What::OutOfRange(word) => write!(f, "{word} is out of range"),
             What::OutOfPlace(word) => write!(f, "`{word}` is out of place"),
             What::Extra(word) => write!(f, "`{word}` is a word too many"),
+            What::ShortPlace { place, entries: 1 } => write!(f, "place {place} has 1 entry"),
             What::ShortPlace { place, entries } => write!(f, "place {place} has {entries} entries"),
             What::LongPlace { place, word } => write!(f, "place {place} goes on with `{word}`"),
+            What::Entries(1) => write!(f, "the index has 1 entry"),
             What::Entries(entries) => write!(f, "the index has {entries} entries"),
         }
     }
@@ -100,9 +102,17 @@ pub enum Fault<'a> {
     /// There is not enough memory.
     Memory,
     /// A line is not as the format has it.
-    Line { line: usize, what: What<'a>, expected: Expected },
+    Line {
+        line: usize,
+        what: What<'a>,
+        expected: Expected,
+    },
     /// A layout breaks a rule, the first that it breaks.
-    Layout { line: usize, layout: usize, kind: LayoutKind, rule: Rule },
+    Layout {
+        line: usize,
+        layout: usize,
+        broken: Broken,
+    },
 }
 
 pub impl<'a> From<AllocError> for Fault<'a> as FaultFromAlloc {
@@ -124,42 +134,58 @@ pub impl<'a> From<fmt::Error> for Fault<'a> as FaultFromWrite {
     }
 }
 
-/// A rule with its limits, for layouts of a kind.
+/// A rule that a layout of a kind breaks.
 #[derive(Clone, Copy)]
-struct RuleFor {
-    kind: LayoutKind,
-    rule: Rule,
+pub struct Broken {
+    pub kind: LayoutKind,
+    pub rule: Rule,
 }
 
-impl fmt::Display for RuleFor as RuleForDisplay {
+impl fmt::Display for Broken as BrokenDisplay {
     fn fmt<W: fmt::Write>(&self, f: &mut fmt::Formatter<W>) -> fmt::Result {
         let kind = kind_name(self.kind);
         match self.rule {
             Rule::Room => write!(f, "there is no room for so many layouts"),
-            Rule::Kind => write!(f, "there are no {kind} layouts here"),
+            Rule::Kind => write!(f, "there can be no {kind} layout here"),
             Rule::Rank => match self.kind {
-                LayoutKind::Dense => write!(f, "a dense layout has 0 to 4 axes"),
-                LayoutKind::Diagonal | LayoutKind::Sparse => write!(f, "a {kind} layout has 1 to 4 axes"),
+                LayoutKind::Dense => write!(f, "a dense layout must have 0 to 4 axes"),
+                LayoutKind::Diagonal | LayoutKind::Sparse => write!(
+                    f,
+                    "a {kind} layout must have 1 to 4 axes"
+                ),
             },
-            Rule::Length => write!(f, "each axis has a length of 1 to 4,096"),
-            Rule::Count => write!(f, "a layout has 1 to 65,536 places"),
-            Rule::Axes => write!(f, "the axes of a diagonal layout are of one length"),
-            Rule::Pool => write!(f, "each place has an entry for each axis"),
-            Rule::Inside => write!(f, "each place is inside the shape"),
-            Rule::Order => write!(f, "each place comes before the next one, and none comes twice"),
+            Rule::Length => write!(f, "each axis must have a length of 1 to 4,096"),
+            Rule::Count => write!(f, "a layout must have 1 to 65,536 places"),
+            Rule::Axes => write!(f, "the axes of a diagonal layout must be of one length"),
+            Rule::Pool => write!(f, "each place must have an entry for each axis"),
+            Rule::Inside => write!(f, "each place must be inside the shape"),
+            Rule::Order => write!(f, "each place must come before the next one"),
         }
     }
 }
 
-pub impl fmt::Display for Fault<'_> as FaultDisplay {
+/// A fault with the name of the file that it is in, as it is told.
+#[derive(Clone, Copy)]
+pub struct Complaint<'a> {
+    pub file: &'a str,
+    pub fault: Fault<'a>,
+}
+
+pub impl fmt::Display for Complaint<'_> as ComplaintDisplay {
     fn fmt<W: fmt::Write>(&self, f: &mut fmt::Formatter<W>) -> fmt::Result {
-        match *self {
-            Fault::Memory => write!(f, "0: there is not enough memory"),
-            Fault::Line { line, what, expected } => write!(f, "{line}: {what}, expected {expected}"),
-            Fault::Layout { line, layout, kind, rule } => {
-                let broken = RuleFor { kind, rule };
-                write!(f, "{line}: layout {layout}: {broken}")
-            }
+        let file = self.file;
+        match self.fault {
+            Fault::Memory => write!(f, "{file}: there is not enough memory"),
+            Fault::Line {
+                line,
+                what,
+                expected,
+            } => write!(f, "{file}:{line}: {what}, expected {expected}"),
+            Fault::Layout {
+                line,
+                layout,
+                broken,
+            } => write!(f, "{file}:{line}: layout {layout}: {broken}"),
         }
     }
 }

@@ -1,4 +1,4 @@
-//! Designs as text: reads layouts and questions, and answers them as text.
+//! Designs as text: reads layouts and questions.
 //!
 //! A design is read line by line. `#` begins a comment, and words are separated by blanks or tabs:
 //!
@@ -7,17 +7,13 @@
 //!     number L A B ..    the strict lookup
 //!     place L N          the place with the number N
 //!
-//! Layouts are numbered from 0 in the order of their lines. Questions are answered when all are read.
-pub mod answer;
+//! Layouts are numbered from 0 in the order of their lines.
 pub mod ask;
 pub mod command;
-pub mod facts;
 pub mod fault;
+pub mod layout_line;
 pub mod names;
 pub mod number;
-pub mod picture;
+pub mod question_line;
 pub mod read;
-pub mod report;
-pub mod run;
-pub mod text;
 pub mod words;

@@ -1,8 +1,8 @@
 //! Answers a design: `stage [--facts] [FILE]`, where no file, or `-`, is the standard input.
-use design::fault::Fault;
-use design::fault::FaultDisplay;
-use design::run::Form;
-use design::run::answer_design;
+use design::fault::Complaint;
+use design::fault::ComplaintDisplay;
+use report::run::Form;
+use report::run::answer_design;
 use std::env;
 use std::fs;
 use std::io;
@@ -30,7 +30,7 @@ impl From<io::Error> for Failed as FailedFromIo {
 }
 
 /// The task that the arguments ask for.
-fn task(rt: &LibcRuntime) -> io::Result<Option<Task>> {
+fn read_task(rt: &LibcRuntime) -> io::Result<Option<Task>> {
     let mut form = Form::Report;
     let mut file = None;
     let mut files = 0u8;
@@ -49,14 +49,15 @@ fn task(rt: &LibcRuntime) -> io::Result<Option<Task>> {
     Ok(Some(Task { form, file }))
 }
 
-fn answer(rt: &LibcRuntime, name: &str, text: &str, form: Form) -> Result<(), Failed> {
+fn answer(rt: &LibcRuntime, file: &str, text: &str, form: Form) -> Result<(), Failed> {
     match answer_design(rt.alloc(), text, form) {
         Ok(answers) => {
             print!(rt, "{answers}")?;
             Ok(())
         }
         Err(fault) => {
-            eprintln!(rt, "{name}:{fault}")?;
+            let complaint = Complaint { file, fault };
+            eprintln!(rt, "{complaint}")?;
             Err(Failed)
         }
     }
@@ -82,7 +83,7 @@ fn run(rt: &LibcRuntime, task: Task) -> Result<(), Failed> {
 }
 
 fn main(rt: LibcRuntime) -> Result<(), Failed> {
-    match task(&rt)? {
+    match read_task(&rt)? {
         Some(task) => run(&rt, task),
         None => {
             eprintln!(rt, "{USAGE}")?;

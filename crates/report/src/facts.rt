@@ -1,9 +1,9 @@
 //! Facts for comparing: one a line.
 use crate::answer::Answer;
-use crate::answer::answer;
-use crate::ask::Question;
-use crate::names::kind_name;
-use crate::names::layer_name;
+use crate::answer::answer_to;
+use design::ask::Question;
+use design::names::kind_name;
+use design::names::layer_name;
 use crate::text::put_joined;
 use layout::catalogue::Catalogue;
 use layout::shape::Shape;
@@ -40,7 +40,7 @@ fn put_question<C: Catalogue>(out: &mut String, c: &C, question: Question) -> fm
         write!(out, "{word} ")?;
     }
     write!(out, "-> ")?;
-    put_answer(out, answer(c, question.ask))?;
+    put_answer(out, answer_to(c, question.ask))?;
     writeln!(out)
 }
 

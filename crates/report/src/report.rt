@@ -1,12 +1,13 @@
 //! A report in plain words.
 use crate::answer::Answer;
-use crate::answer::answer;
-use crate::ask::Ask;
-use crate::ask::Entries;
-use crate::ask::Question;
-use crate::names::kind_name;
-use crate::names::layer_name;
+use crate::answer::answer_to;
+use design::ask::Ask;
+use design::ask::Entries;
+use design::ask::Question;
+use design::names::kind_name;
+use design::names::layer_name;
 use crate::picture::put_picture;
+use design::layout_line::LayoutLine;
 use crate::text::put_joined;
 use layout::catalogue::Catalogue;
 use layout::fault::LayoutFault;
@@ -22,7 +23,13 @@ fn put_shape(out: &mut String, shape: Shape) -> fmt::Result {
     }
 }
 
-fn put_layout<C: Catalogue>(out: &mut String, c: &C, layout: usize, line: usize, shape: Shape) -> fmt::Result {
+fn put_layout<C: Catalogue>(
+    out: &mut String,
+    c: &C,
+    layout: usize,
+    line: usize,
+    shape: Shape,
+) -> fmt::Result {
     let kind = kind_name(shape.kind);
     write!(out, "layout {layout} (line {line}): {kind}, ")?;
     put_shape(out, shape)?;
@@ -66,7 +73,10 @@ fn put_refusal(out: &mut String, layout: usize, fault: LayoutFault) -> fmt::Resu
     let number = report.number;
     let layer = layer_name(report.layer);
     let place = report.place;
-    write!(out, "refused ({number}, {layer}, place {place}): there is no layout {layout}")
+    write!(
+        out,
+        "refused ({number}, {layer}, place {place}): there is no layout {layout}"
+    )
 }
 
 fn put_answer(out: &mut String, layout: usize, answer: Answer) -> fmt::Result {
@@ -83,15 +93,20 @@ fn put_question<C: Catalogue>(out: &mut String, c: &C, question: Question) -> fm
     write!(out, "line {line}: ")?;
     put_ask(out, question.ask)?;
     write!(out, ": ")?;
-    put_answer(out, layout_asked(question.ask), answer(c, question.ask))?;
+    put_answer(out, layout_asked(question.ask), answer_to(c, question.ask))?;
     writeln!(out)
 }
 
 /// Writes each layout with its line and a picture, and then each question with its answer.
-pub fn put_report<C: Catalogue>(out: &mut String, c: &C, lines: &[usize], questions: &[Question]) -> fmt::Result {
+pub fn put_report<C: Catalogue>(
+    out: &mut String,
+    c: &C,
+    lines: &[LayoutLine],
+    questions: &[Question],
+) -> fmt::Result {
     for (layout, line) in lines.iter().enumerate() {
         if let Ok(shape) = c.shape(layout) {
-            put_layout(out, c, layout, *line, shape)?;
+            put_layout(out, c, layout, line.line, shape)?;
         }
     }
     for question in questions {

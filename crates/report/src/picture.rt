@@ -6,14 +6,25 @@ use std::fmt;
 
 /// Larger pictures are not drawn.
 const MOST_ROWS: usize = 16;
+
 const MOST_COLUMNS: usize = 16;
 
 /// No more places are listed.
 const MOST_PLACES: usize = 32;
 
 /// The number of the place that a picture has at a row and a column.
-fn cell<C: Catalogue>(c: &C, layout: usize, rank: usize, row: usize, column: usize) -> Option<usize> {
-    let index = if rank < 2 { [column as i64, 0, 0, 0] } else { [row as i64, column as i64, 0, 0] };
+fn cell<C: Catalogue>(
+    c: &C,
+    layout: usize,
+    rank: usize,
+    row: usize,
+    column: usize,
+) -> Option<usize> {
+    let index = if rank < 2 {
+        [column as i64, 0, 0, 0]
+    } else {
+        [row as i64, column as i64, 0, 0]
+    };
     match c.number(layout, index) {
         Ok(number) => number,
         Err(_) => None,
@@ -31,7 +42,14 @@ fn width_below(count: usize) -> usize {
     }
 }
 
-fn put_row<C: Catalogue>(out: &mut String, c: &C, layout: usize, shape: Shape, row: usize, columns: usize) -> fmt::Result {
+fn put_row<C: Catalogue>(
+    out: &mut String,
+    c: &C,
+    layout: usize,
+    shape: Shape,
+    row: usize,
+    columns: usize,
+) -> fmt::Result {
     let width = width_below(shape.count);
     write!(out, "   ")?;
     for column in 0..columns {
@@ -43,7 +61,14 @@ fn put_row<C: Catalogue>(out: &mut String, c: &C, layout: usize, shape: Shape, r
     writeln!(out)
 }
 
-fn put_grid<C: Catalogue>(out: &mut String, c: &C, layout: usize, shape: Shape, rows: usize, columns: usize) -> fmt::Result {
+fn put_grid<C: Catalogue>(
+    out: &mut String,
+    c: &C,
+    layout: usize,
+    shape: Shape,
+    rows: usize,
+    columns: usize,
+) -> fmt::Result {
     if rows > MOST_ROWS || columns > MOST_COLUMNS {
         return writeln!(out, "    too large to draw");
     }
@@ -69,7 +94,12 @@ fn put_list<C: Catalogue>(out: &mut String, c: &C, layout: usize, shape: Shape) 
 }
 
 /// Writes the places of a layout: up to two axes drawn, with a `.` where there is no place, and more axes listed.
-pub fn put_picture<C: Catalogue>(out: &mut String, c: &C, layout: usize, shape: Shape) -> fmt::Result {
+pub fn put_picture<C: Catalogue>(
+    out: &mut String,
+    c: &C,
+    layout: usize,
+    shape: Shape,
+) -> fmt::Result {
     match shape.rank {
         0 | 1 => put_grid(out, c, layout, shape, 1, shape.lengths[0]),
         2 => put_grid(out, c, layout, shape, shape.lengths[0], shape.lengths[1]),

@@ -1,5 +1,5 @@
 //! Answers to questions about layouts.
-use crate::ask::Ask;
+use design::ask::Ask;
 use layout::catalogue::Catalogue;
 use layout::fault::LayoutFault;
 use layout::find::find_nnz_index;
@@ -29,14 +29,21 @@ fn placed<C: Catalogue>(c: &C, layout: usize, number: usize) -> Answer {
     match c.shape(layout) {
         Ok(shape) => {
             let (index, there) = c.place(layout, number);
-            if there { Answer::Place { rank: shape.rank, index } } else { Answer::Nothing }
+            if there {
+                Answer::Place {
+                    rank: shape.rank,
+                    index,
+                }
+            } else {
+                Answer::Nothing
+            }
         }
         Err(fault) => Answer::Refused(fault),
     }
 }
 
 /// The answer to a question.
-pub fn answer<C: Catalogue>(c: &C, ask: Ask) -> Answer {
+pub fn answer_to<C: Catalogue>(c: &C, ask: Ask) -> Answer {
     match ask {
         Ask::Find { layout, entries } => looked_up(find_nnz_index(c, layout, entries.index)),
         Ask::Number { layout, entries } => looked_up(c.number(layout, entries.index)),

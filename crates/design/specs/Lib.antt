@@ -1,0 +1,5 @@
+pub mod Blames
+pub mod Keywords
+pub mod Lines
+pub mod Numbers
+pub mod Texts
