@@ -24,7 +24,7 @@ use table::record::LayoutRecord;
 #[derive(Clone, Copy)]
 pub struct LayoutLine {
     pub line: usize,
-    pub record: LayoutRecord,
+    pub layout: LayoutRecord,
 }
 
 fn read_kind<'a>(words: &mut Words<'a>) -> Result<LayoutKind, Fault<'a>>

@@ -65,8 +65,8 @@ impl<'a> Design<'a> {
     }
 
     fn add_layout(&mut self, heap: Global, line: usize, words: &mut Words<'a>) -> Result<(), Fault<'a>> {
-        let record = read_layout(heap, words, &mut self.pool)?;
-        self.layouts.push(LayoutLine { line, record })?;
+        let layout = read_layout(heap, words, &mut self.pool)?;
+        self.layouts.push(LayoutLine { line, layout })?;
         Ok(())
     }
 

@@ -1,4 +1,8 @@
 //! Pictures of layouts.
+ghost use mathlib.Core.Path.{_≡_};
+ghost use Prim.Native.Nat.{_<_, _≤_};
+ghost use Rattle.layout.specs.Answers.{number-asked};
+ghost use Rattle.report.specs.Told.{cell-index, found};
 use crate::text::put_joined;
 use layout::catalogue::Catalogue;
 use layout::shape::Shape;
@@ -13,18 +17,12 @@ const MOST_COLUMNS: usize = 16;
 const MOST_PLACES: usize = 32;
 
 /// The number of the place that a picture has at a row and a column.
-fn cell<C: Catalogue>(
-    c: &C,
-    layout: usize,
-    rank: usize,
-    row: usize,
-    column: usize,
-) -> Option<usize> {
-    let index = if rank < 2 {
-        [column as i64, 0, 0, 0]
-    } else {
-        [row as i64, column as i64, 0, 0]
-    };
+fn cell<C: Catalogue>(c: &C, layout: usize, rank: usize, row: usize, column: usize) -> Option<usize>
+    requires rows { ⌜ row < 16 ⌝ }
+    requires columns { ⌜ column < 16 ⌝ }
+    ensures { λ r. ⌜ r ≡ found (number-asked (layouts (now (c .entry))) layout (cell-index rank row column)) ⌝ }
+{
+    let index = if rank < 2 { [column as i64, 0, 0, 0] } else { [row as i64, column as i64, 0, 0] };
     match c.number(layout, index) {
         Ok(number) => number,
         Err(_) => None,
@@ -42,14 +40,10 @@ fn width_below(count: usize) -> usize {
     }
 }
 
-fn put_row<C: Catalogue>(
-    out: &mut String,
-    c: &C,
-    layout: usize,
-    shape: Shape,
-    row: usize,
-    columns: usize,
-) -> fmt::Result {
+fn put_row<C: Catalogue>(out: &mut String, c: &C, layout: usize, shape: Shape, row: usize, columns: usize) -> fmt::Result
+    requires rows { ⌜ row < 16 ⌝ }
+    requires columns { ⌜ columns ≤ 16 ⌝ }
+{
     let width = width_below(shape.count);
     write!(out, "   ")?;
     for column in 0..columns {

@@ -2,6 +2,13 @@
 use design::ask::Ask;
 use design::ask::Entries;
 use design::ask::Question;
+ghost use mathlib.Core.Path.{_≡_};
+ghost use mathlib.Core.List.{map};
+ghost use Prim.Native.Nat.{_<_};
+ghost use lib.ListN.{length};
+ghost use Rattle.std.specs.Of.Vec.{vec-items};
+ghost use Rattle.std.specs.Vec.{made};
+ghost use Rattle.table.specs.Records.{AllKept};
 use crate::facts::put_facts;
 use design::fault::Broken;
 use design::fault::Expected;
@@ -88,43 +95,49 @@ fn put_answers<'a, C: Catalogue>(
 }
 
 /// The records of the layouts of a design.
-fn records_of(heap: Global, layouts: &[LayoutLine]) -> Result<Vec<LayoutRecord>, AllocError> {
+fn records_of(heap: Global, layouts: &[LayoutLine]) -> Result<Vec<LayoutRecord>, AllocError>
+    ensures { λ r. ⌜ made r (λ v. vec-items v ≡ map (λ l. l .layout) (now (layouts .entry))) ⌝ }
+{
     let mut records = Vec::new(heap);
-    for layout in layouts {
-        records.push(layout.record)?;
+    for line in layouts {
+        records.push(line.layout)?;
     }
     Ok(records)
 }
 
 /// The fault of a layout that breaks a rule, with its line.
-fn broken_layout<'a>(layouts: &[LayoutLine], layout: usize, rule: Rule) -> Fault<'a> {
-    let LayoutLine { line, record } = layouts[layout];
-    Fault::Layout {
-        line,
-        layout,
-        broken: Broken {
-            kind: record.kind,
-            rule,
-        },
+fn broken_layout<'a>(layouts: &[LayoutLine], layout: usize, rule: Rule) -> Fault<'a>
+    requires { ⌜ layout < length (now layouts) ⌝ }
+{
+    let found = layouts[layout];
+    Fault::Layout { line: found.line, layout, broken: Broken { kind: found.layout.kind, rule } }
+}
+
+/// Refuses the first layout that breaks a rule.
+fn check_layouts<'a>(layouts: &[LayoutLine], records: &[LayoutRecord], pool: &[u16]) -> Result<(), Fault<'a>>
+    requires { ⌜ length (now records) ≡ length (now layouts) ⌝ }
+    ensures { λ r. ⌜ made r (λ _. AllKept (now (pool .entry)) (now (records .entry))) ⌝ }
+{
+    match check_records(records, pool) {
+        Ok(()) => Ok(()),
+        Err(LayoutFault::Faulty { record, rule }) => Err(broken_layout(layouts, record, rule)),
+        Err(LayoutFault::Unknown) => unreachable(),
     }
+}
+
+fn answers<'a, 'x>(heap: Global, design: &'x Design<'a>, records: &'x [LayoutRecord], form: Form) -> Result<String, Fault<'a>>
+    requires { ⌜ AllKept (vec-items (now design .pool)) (now records) ⌝ }
+{
+    let table = Table::new(records, design.pool.as_slice());
+    let mut out = String::new(heap);
+    put_answers(&mut out, &table, design, form)?;
+    Ok(out)
 }
 
 /// The answers to the questions of a design.
 pub fn answer_design<'a>(heap: Global, text: &'a str, form: Form) -> Result<String, Fault<'a>> {
     let design = read_design(heap, text)?;
     let records = records_of(heap, design.layouts.as_slice())?;
-    match check_records(records.as_slice(), design.pool.as_slice()) {
-        Ok(()) => {
-            let table = Table::new(records.as_slice(), design.pool.as_slice());
-            let mut out = String::new(heap);
-            put_answers(&mut out, &table, &design, form)?;
-            Ok(out)
-        }
-        Err(LayoutFault::Faulty { record, rule }) => Err(broken_layout(
-            design.layouts.as_slice(),
-            record,
-            rule,
-        )),
-        Err(LayoutFault::Unknown) => unreachable(),
-    }
+    check_layouts(design.layouts.as_slice(), records.as_slice(), design.pool.as_slice())?;
+    answers(heap, &design, records.as_slice(), form)
 }
