@@ -11,12 +11,18 @@ const USAGE: &str = "usage: stage [--facts] [FILE]
 Answers the questions of a design. Without FILE, or with -, it reads the standard input.
 --facts prints one fact a line, for comparing.";
 
+/// Where a design is read from.
+#[derive(Drop)]
+enum Source {
+    Input,
+    File(String),
+}
+
 /// What the program is asked to do.
 #[derive(Drop)]
 struct Task {
     form: Form,
-    /// The design's file; none for the standard input.
-    file: Option<String>,
+    source: Source,
 }
 
 /// Why the program ends with status 1: the reason is written by then.
@@ -29,27 +35,28 @@ impl From<io::Error> for Failed as FailedFromIo {
     }
 }
 
-/// The task that the arguments ask for.
+/// The task that the arguments ask for, if they are right.
 fn read_task(rt: &LibcRuntime) -> io::Result<Option<Task>> {
     let mut form = Form::Report;
-    let mut file = None;
-    let mut files = 0u8;
+    let mut source = None;
     for word in env::args(rt)?.skip(1) {
         if word.as_str() == "--facts" {
             form = Form::Facts;
-        } else if files > 0 {
+        } else if source.is_some() {
+            return Ok(None);
+        } else if word.as_str() == "-" {
+            source = Some(Source::Input);
+        } else if word.as_str().starts_with('-') {
             return Ok(None);
         } else {
-            files = 1;
-            if word.as_str() != "-" {
-                file = Some(word);
-            }
+            source = Some(Source::File(word));
         }
     }
-    Ok(Some(Task { form, file }))
+    Ok(Some(Task { form, source: source.unwrap_or(Source::Input) }))
 }
 
-fn answer(rt: &LibcRuntime, file: &str, text: &str, form: Form) -> Result<(), Failed> {
+/// Prints the answers to a design, or what is wrong with it.
+fn print_answers<'a>(rt: &LibcRuntime, file: &'a str, text: &'a str, form: Form) -> Result<(), Failed> {
     match answer_design(rt.alloc(), text, form) {
         Ok(answers) => {
             print!(rt, "{answers}")?;
@@ -63,22 +70,21 @@ fn answer(rt: &LibcRuntime, file: &str, text: &str, form: Form) -> Result<(), Fa
     }
 }
 
-fn run(rt: &LibcRuntime, task: Task) -> Result<(), Failed> {
-    let Task { form, file } = task;
-    let name = match &file {
-        Some(file) => file.as_str(),
-        None => "stdin",
-    };
-    let text = match &file {
-        Some(file) => fs::read_to_string(rt, file.as_str()),
-        None => io::read_to_string(rt.alloc(), rt.stdin()),
-    };
+fn answer(rt: &LibcRuntime, file: &str, text: io::Result<String>, form: Form) -> Result<(), Failed> {
     match text {
-        Ok(text) => answer(rt, name, text.as_str(), form),
+        Ok(text) => print_answers(rt, file, text.as_str(), form),
         Err(e) => {
-            eprintln!(rt, "{name}: cannot be read: {e}")?;
+            eprintln!(rt, "{file}: cannot be read: {e}")?;
             Err(Failed)
         }
+    }
+}
+
+fn run(rt: &LibcRuntime, task: Task) -> Result<(), Failed> {
+    let Task { form, source } = task;
+    match source {
+        Source::Input => answer(rt, "stdin", io::read_to_string(rt.alloc(), rt.stdin()), form),
+        Source::File(file) => answer(rt, file.as_str(), fs::read_to_string(rt, file.as_str()), form),
     }
 }
 
