@@ -1,4 +1,5 @@
 pub mod Blames
+pub mod Designs
 pub mod Keywords
 pub mod Lines
 pub mod Numbers
