@@ -17,16 +17,16 @@ ghost use Rattle.design.specs.declared.read.Design.{Design};
 ghost use Rattle.design.specs.Designs.{Design-said};
 ghost use Rattle.report.specs.Runs.{records as records-of, layouts-of, Matched, Rule-told, Told};
 use crate::facts::put_facts;
+use crate::report::put_report;
 use design::fault::Broken;
 use design::fault::Expected;
 use design::fault::Fault;
 use design::fault::FaultFromAlloc;
 use design::fault::FaultFromWrite;
 use design::fault::What;
-use design::read::Design;
 use design::layout_line::LayoutLine;
+use design::read::Design;
 use design::read::read_design;
-use crate::report::put_report;
 use layout::catalogue::Catalogue;
 use layout::fault::LayoutFault;
 use layout::fault::Rule;
@@ -46,7 +46,12 @@ pub enum Form {
     Facts,
 }
 
-fn check_entries<'a, C: Catalogue>(c: &C, line: usize, layout: usize, entries: Entries) -> Result<(), Fault<'a>>
+fn check_entries<'a, C: Catalogue>(
+    c: &C,
+    line: usize,
+    layout: usize,
+    entries: Entries,
+) -> Result<(), Fault<'a>>
     ensures { λ r. ⌜ Cases r (λ _. layout < length (layouts (now (c .entry))) → entries .count ≡ rank (getD (layouts (now (c .entry))) layout blank)) (λ _. (layout < length (layouts (now (c .entry))) → entries .count ≡ rank (getD (layouts (now (c .entry))) layout blank)) → ⊥) ⌝ }
 {
     match c.shape(layout) {
@@ -54,7 +59,11 @@ fn check_entries<'a, C: Catalogue>(c: &C, line: usize, layout: usize, entries: E
             if entries.count == shape.rank {
                 Ok(())
             } else {
-                Err(Fault::Line { line, what: What::Entries(entries.count), expected: Expected::Entries(shape.rank) })
+                Err(Fault::Line {
+                    line,
+                    what: What::Entries(entries.count),
+                    expected: Expected::Entries(shape.rank),
+                })
             }
         }
         Err(_) => Ok(()),
@@ -68,18 +77,31 @@ fn check_question<'a, C: Catalogue>(c: &C, question: Question<'a>) -> Result<(),
     match question.ask {
         Ask::Find { layout, entries } => check_entries(c, question.line, layout, entries),
         Ask::Number { layout, entries } => check_entries(c, question.line, layout, entries),
-        Ask::Place { layout: _, number: _ } => Ok(()),
+        Ask::Place {
+            layout: _,
+            number: _,
+        } => Ok(()),
     }
 }
 
-fn put_answers<'a, C: Catalogue>(out: &mut String, c: &C, design: &Design<'a>, form: Form) -> Result<(), Fault<'a>>
+fn put_answers<'a, C: Catalogue>(
+    out: &mut String,
+    c: &C,
+    design: &Design<'a>,
+    form: Form,
+) -> Result<(), Fault<'a>>
     ensures { λ r. ⌜ made r (λ _. Told form (layouts (now (c .entry))) (vec-items (now (design .entry) .questions)) (string-bytes (now (out .entry))) (string-bytes (now (out .exit)))) ⌝ }
 {
     for question in design.questions.iter() {
         check_question(c, *question)?;
     }
     match form {
-        Form::Report => put_report(out, c, design.layouts.as_slice(), design.questions.as_slice())?,
+        Form::Report => put_report(
+            out,
+            c,
+            design.layouts.as_slice(),
+            design.questions.as_slice(),
+        )?,
         Form::Facts => put_facts(out, c, design.questions.as_slice())?,
     }
     Ok(())
@@ -102,11 +124,22 @@ fn broken_layout<'a>(lines: &[LayoutLine], layout: usize, rule: Rule) -> Fault<'
     ensures { λ r. ⌜ r ≡ fault.Layout (getD (now (lines .entry)) layout (record { line = 0; layout = no-record }) .line) layout (record { kind = getD (now (lines .entry)) layout (record { line = 0; layout = no-record }) .layout .kind; rule = rule }) ⌝ }
 {
     let found = lines[layout];
-    Fault::Layout { line: found.line, layout, broken: Broken { kind: found.layout.kind, rule } }
+    Fault::Layout {
+        line: found.line,
+        layout,
+        broken: Broken {
+            kind: found.layout.kind,
+            rule,
+        },
+    }
 }
 
 /// Refuses the first layout that breaks a rule.
-fn check_layouts<'a>(lines: &[LayoutLine], records: &[LayoutRecord], pool: &[u16]) -> Result<(), Fault<'a>>
+fn check_layouts<'a>(
+    lines: &[LayoutLine],
+    records: &[LayoutRecord],
+    pool: &[u16],
+) -> Result<(), Fault<'a>>
     requires { ⌜ now records ≡ records-of (now lines) ⌝ }
     ensures { λ r. ⌜ Cases r (λ _. AllKept (now (pool .entry)) (now (records .entry))) (Rule-told (now (lines .entry)) (now (pool .entry))) ⌝ }
 {
@@ -117,7 +150,12 @@ fn check_layouts<'a>(lines: &[LayoutLine], records: &[LayoutRecord], pool: &[u16
     }
 }
 
-fn answers<'a, 'x>(heap: Global, design: &'x Design<'a>, records: &'x [LayoutRecord], form: Form) -> Result<String, Fault<'a>>
+fn answers<'a, 'x>(
+    heap: Global,
+    design: &'x Design<'a>,
+    records: &'x [LayoutRecord],
+    form: Form,
+) -> Result<String, Fault<'a>>
     requires { ⌜ AllKept (vec-items (now design .pool)) (now records) ⌝ }
     ensures { λ r. ⌜ made r (λ s. Told form (table-layouts (vec-items (now (design .entry) .pool)) (now (records .entry))) (vec-items (now (design .entry) .questions)) [] (string-bytes s)) ⌝ }
 {
@@ -133,6 +171,10 @@ pub fn answer_design<'a>(heap: Global, text: &'a str, form: Form) -> Result<Stri
 {
     let design = read_design(heap, text)?;
     let records = collect_records(heap, design.layouts.as_slice())?;
-    check_layouts(design.layouts.as_slice(), records.as_slice(), design.pool.as_slice())?;
+    check_layouts(
+        design.layouts.as_slice(),
+        records.as_slice(),
+        design.pool.as_slice(),
+    )?;
     answers(heap, &design, records.as_slice(), form)
 }
