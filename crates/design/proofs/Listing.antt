@@ -49,9 +49,13 @@ module _ {rank place entries : ℕ} {all rest : List (List ℕ)} {before now : L
   room =
       omega (
         arith,
-        ap length (old .pooled), length-append before (old .es),
-        says-length natural (flat (old .places) ++ old .last) (old .es) (old .said), length-append (flat (old .places)) (old .last),
-        flat-length rank (old .places) (old .even), ap (λ n. n * rank) (old .many), old .part
+        ap length (old .pooled),
+        length-append before (old .es),
+        says-length natural (flat (old .places) ++ old .last) (old .es) (old .said),
+        length-append (flat (old .places)) (old .last),
+        flat-length rank (old .places) (old .even),
+        ap (λ n. n * rank) (old .many),
+        old .part,
       )
 
   -- and so are as many as there are places
@@ -77,7 +81,7 @@ module _ {rank place entries : ℕ} {all rest : List (List ℕ)} {before now : L
     last = [];
     es = old .es;
     split = old .split ∙ ap (λ l. joined ended (old .places) ++ l) (ap (λ l. old .last ++ l) first ∙ sym (append-assoc (old .last) (codes "," ∷ []) after))
-      ∙ sym (append-assoc (joined ended (old .places)) (ended (old .last)) after) ∙ ap (λ l. l ++ after) (joined-more ended [] (old .places) (old .last));
+        ∙ sym (append-assoc (joined ended (old .places)) (ended (old .last)) after) ∙ ap (λ l. l ++ after) (joined-more ended [] (old .places) (old .last));
     said = subst (λ l. Says natural l (old .es)) (joined-more (λ place. place) [] (old .places) (old .last) ∙ sym (append-nil _)) (old .said);
     pooled = old .pooled;
     even = all-push _ (old .places) (old .last) (old .even) (old .part ∙ full);
@@ -86,15 +90,19 @@ module _ {rank place entries : ℕ} {all rest : List (List ℕ)} {before now : L
   }
 
   pub listed : rest ≡ [] → entries ≡ rank → Pooled rank all (place + 1) before now
-  listed none full = inr (old .es, record {
-    places = old .places;
-    last = old .last;
-    split = old .split ∙ ap (λ l. joined ended (old .places) ++ l) (ap (λ l. old .last ++ l) none ∙ append-nil (old .last));
-    said = old .said;
-    even = old .even;
-    whole = old .part ∙ full;
-    many = ap (λ n. n + 1) (sym (old .many));
-  }, old .pooled)
+  listed none full = inr (
+    old .es,
+    record {
+      places = old .places;
+      last = old .last;
+      split = old .split ∙ ap (λ l. joined ended (old .places) ++ l) (ap (λ l. old .last ++ l) none ∙ append-nil (old .last));
+      said = old .said;
+      even = old .even;
+      whole = old .part ∙ full;
+      many = ap (λ n. n + 1) (sym (old .many));
+    },
+    old .pooled,
+  )
 
   pub unlisted : rest ≡ [] → place ≡ 0 → entries ≡ 0 → Pooled rank all 0 before now
   unlisted none no-place no-entry =

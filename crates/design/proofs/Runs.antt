@@ -89,8 +89,7 @@ next-word bs gap x rest more u cut some blank whole ends =
     let all : decodes bs ≡ blank .0 ++ (whole .0 ++ q .0) = p .1 ∙ ap (λ l. blank .0 ++ l) (q .1) in
     let sc = scalars-after (whole .0) (q .0) (scalars-after (blank .0) (whole .0 ++ q .0) (subst (λ l. scalars l ≡ true) all (u .valid))) in
     let there : decodes rest ≡ q .0 = ap decodes (sym (q .2)) ∙ decodes-encodes (q .0) sc in
-    let run = runs-blank (blank .0) (whole .0 ++ q .0) (blank .2) ∙ solid (whole .0) (q .0) (subst (λ l. 0 < length l) (sym (whole .1)) some) (whole .2) (ends-at (q .0) rest more (q .2) ends) in
-    (
+    let run = runs-blank (blank .0) (whole .0 ++ q .0) (blank .2) ∙ solid (whole .0) (q .0) (subst (λ l. 0 < length l) (sym (whole .1)) some) (whole .2) (ends-at (q .0) rest more (q .2) ends) in (
       ap (λ l. map encodes (runs l)) all ∙ ap (map encodes) run ∙ (λ i. whole .1 i ∷ map encodes (runs (sym there i))),
       record { spelled = ap encodes there ∙ q .2; valid = ap scalars there ∙ sc },
     )

@@ -38,7 +38,12 @@ fn read_kind<'a>(words: &mut Words<'a>) -> Result<LayoutKind, Fault<'a>>
 }
 
 // Whether a place has an entry for each axis.
-fn check_place<'a>(words: &Words<'a>, place: usize, entries: usize, rank: usize) -> Result<(), Fault<'a>>
+fn check_place<'a>(
+    words: &Words<'a>,
+    place: usize,
+    entries: usize,
+    rank: usize,
+) -> Result<(), Fault<'a>>
     ensures { λ r. ⌜ made r (λ _. rank ≤ entries) ⌝ }
 {
     if entries < rank {
@@ -48,7 +53,11 @@ fn check_place<'a>(words: &Words<'a>, place: usize, entries: usize, rank: usize)
 }
 
 /// Reads places of `rank` entries up to the end of the line into the pool, and counts them.
-fn read_places<'a>(words: &mut Words<'a>, rank: usize, pool: &mut Vec<u16>) -> Result<usize, Fault<'a>>
+fn read_places<'a>(
+    words: &mut Words<'a>,
+    rank: usize,
+    pool: &mut Vec<u16>,
+) -> Result<usize, Fault<'a>>
     ensures { λ r. ⌜ made r (λ count. Pooled rank (unread (now (words .entry))) count (vec-items (now (pool .entry))) (vec-items (now (pool .exit)))) ⌝ }
 {
     if rank == 0 {
@@ -78,7 +87,13 @@ fn read_places<'a>(words: &mut Words<'a>, rank: usize, pool: &mut Vec<u16>) -> R
 }
 
 /// Reads what follows the axes of a layout, and counts the places that it lists.
-fn read_rest<'a>(words: &mut Words<'a>, kind: LayoutKind, colon: bool, rank: usize, pool: &mut Vec<u16>) -> Result<usize, Fault<'a>>
+fn read_rest<'a>(
+    words: &mut Words<'a>,
+    kind: LayoutKind,
+    colon: bool,
+    rank: usize,
+    pool: &mut Vec<u16>,
+) -> Result<usize, Fault<'a>>
     ensures { λ r. ⌜ made r (λ count. Places-said kind (cond colon (codes ":" ∷ unread (now (words .entry))) []) rank count (vec-items (now (pool .entry))) (vec-items (now (pool .exit)))) ⌝ }
 {
     match kind {
@@ -98,7 +113,11 @@ fn read_rest<'a>(words: &mut Words<'a>, kind: LayoutKind, colon: bool, rank: usi
 }
 
 /// Reads a layout after its first word.
-pub fn read_layout<'a>(heap: Global, words: &mut Words<'a>, pool: &mut Vec<u16>) -> Result<LayoutRecord, Fault<'a>>
+pub fn read_layout<'a>(
+    heap: Global,
+    words: &mut Words<'a>,
+    pool: &mut Vec<u16>,
+) -> Result<LayoutRecord, Fault<'a>>
     ensures { λ r. ⌜ made r (λ l. Layout-said (unread (now (words .entry))) l (vec-items (now (pool .entry))) (vec-items (now (pool .exit)))) ⌝ }
 {
     let kind = read_kind(words)?;
@@ -107,5 +126,11 @@ pub fn read_layout<'a>(heap: Global, words: &mut Words<'a>, pool: &mut Vec<u16>)
     let lengths = first_four(numbers.values.as_slice(), 1);
     let start = pool.len();
     let count = read_rest(words, kind, numbers.colon, rank, pool)?;
-    Ok(LayoutRecord { kind, rank, lengths, start, count })
+    Ok(LayoutRecord {
+        kind,
+        rank,
+        lengths,
+        start,
+        count,
+    })
 }

@@ -41,7 +41,12 @@ pub fn number<N: FromStr<Err = ParseIntError>>(word: &str) -> Result<N, NumberFa
 pub fn first_four<T: Copy>(items: &[T], beyond: T) -> [T; 4]
     ensures { λ r. ⌜ r ≡ four beyond (now (items .entry)) ⌝ }
 {
-    [item_or(items, 0, beyond), item_or(items, 1, beyond), item_or(items, 2, beyond), item_or(items, 3, beyond)]
+    [
+        item_or(items, 0, beyond),
+        item_or(items, 1, beyond),
+        item_or(items, 2, beyond),
+        item_or(items, 3, beyond),
+    ]
 }
 
 fn item_or<T: Copy>(items: &[T], i: usize, beyond: T) -> T

@@ -41,7 +41,12 @@ fn uncommented(line: &str) -> &str
 }
 
 /// Reads a question after its first word, `word`, which names `command`.
-fn read_ask<'a>(heap: Global, words: &mut Words<'a>, word: &'a str, command: Command) -> Result<Ask, Fault<'a>>
+fn read_ask<'a>(
+    heap: Global,
+    words: &mut Words<'a>,
+    word: &'a str,
+    command: Command,
+) -> Result<Ask, Fault<'a>>
     ensures { λ r. ⌜ made r (Asked command (unread (now (words .entry)))) ⌝ }
 {
     match command {
@@ -66,10 +71,19 @@ impl<'a> Design<'a> {
     pub fn new(heap: Global) -> Design<'a>
         ensures { λ r. ⌜ contents r ≡ nothing ⌝ }
     {
-        Design { layouts: Vec::new(heap), pool: Vec::new(heap), questions: Vec::new(heap) }
+        Design {
+            layouts: Vec::new(heap),
+            pool: Vec::new(heap),
+            questions: Vec::new(heap),
+        }
     }
 
-    fn add_layout(&mut self, heap: Global, line: usize, words: &mut Words<'a>) -> Result<(), Fault<'a>>
+    fn add_layout(
+        &mut self,
+        heap: Global,
+        line: usize,
+        words: &mut Words<'a>,
+    ) -> Result<(), Fault<'a>>
         ensures { λ r. ⌜ made r (λ _. Layout-added line (unread (now (words .entry))) (contents (now (self .entry))) (contents (now (self .exit)))) ⌝ }
     {
         let layout = read_layout(heap, words, &mut self.pool)?;

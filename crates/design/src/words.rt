@@ -87,7 +87,11 @@ impl<'a> Words<'a> {
     }
 
     /// The number that a word of this line writes.
-    pub fn read<N: FromStr<Err = ParseIntError>>(&self, word: &'a str, expected: Expected) -> Result<N, Fault<'a>>
+    pub fn read<N: FromStr<Err = ParseIntError>>(
+        &self,
+        word: &'a str,
+        expected: Expected,
+    ) -> Result<N, Fault<'a>>
         ensures { λ r. ⌜ ((p : Result N ParseIntError) × reads (now (word .entry)) p × Cases r (λ n. p ≡ Ok n) (λ f. (isErr p ≡ true) × Blames (now (self .entry) .line) expected f)) ⌝ }
     {
         match number(word) {
@@ -101,7 +105,10 @@ impl<'a> Words<'a> {
     }
 
     /// The next word, which has to be a number.
-    pub fn number<N: FromStr<Err = ParseIntError>>(&mut self, expected: Expected) -> Result<N, Fault<'a>>
+    pub fn number<N: FromStr<Err = ParseIntError>>(
+        &mut self,
+        expected: Expected,
+    ) -> Result<N, Fault<'a>>
         ensures takes { λ r. ⌜ made r (λ n. (w : List ℕ) × (left (now (self .entry) .rest) ≡ w ∷ left (now (self .exit) .rest)) × reads w (Ok n)) ⌝ }
         ensures line { λ _. ⌜ now (self .exit) .line ≡ now (self .entry) .line ⌝ }
     {
@@ -110,7 +117,11 @@ impl<'a> Words<'a> {
     }
 
     /// The numbers up to a `:` or the end of the line.
-    pub fn numbers<N: FromStr<Err = ParseIntError> + Drop>(&mut self, heap: Global, expected: Expected) -> Result<Numbers<N>, Fault<'a>>
+    pub fn numbers<N: FromStr<Err = ParseIntError> + Drop>(
+        &mut self,
+        heap: Global,
+        expected: Expected,
+    ) -> Result<Numbers<N>, Fault<'a>>
         ensures takes { λ r. ⌜ made r (λ v. Numbered (λ w n. reads w (Ok n)) (left (now (self .entry) .rest)) (vec-items (v .values)) (v .colon) (left (now (self .exit) .rest))) ⌝ }
         ensures line { λ _. ⌜ now (self .exit) .line ≡ now (self .entry) .line ⌝ }
     {

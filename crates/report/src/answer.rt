@@ -35,7 +35,14 @@ fn place_answer<C: Catalogue>(c: &C, layout: usize, number: usize) -> Answer
     match c.shape(layout) {
         Ok(shape) => {
             let (index, there) = c.place(layout, number);
-            if there { Answer::Place { rank: shape.rank, index } } else { Answer::Nothing }
+            if there {
+                Answer::Place {
+                    rank: shape.rank,
+                    index,
+                }
+            } else {
+                Answer::Nothing
+            }
         }
         Err(fault) => Answer::Refused(fault),
     }

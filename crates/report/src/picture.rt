@@ -22,7 +22,11 @@ fn cell<C: Catalogue>(c: &C, layout: usize, rank: usize, row: usize, column: usi
     requires columns { ⌜ column < 16 ⌝ }
     ensures { λ r. ⌜ r ≡ found (number-asked (layouts (now (c .entry))) layout (cell-index rank row column)) ⌝ }
 {
-    let index = if rank < 2 { [column as i64, 0, 0, 0] } else { [row as i64, column as i64, 0, 0] };
+    let index = if rank < 2 {
+        [column as i64, 0, 0, 0]
+    } else {
+        [row as i64, column as i64, 0, 0]
+    };
     match c.number(layout, index) {
         Ok(number) => number,
         Err(_) => None,
@@ -40,7 +44,14 @@ fn width_below(count: usize) -> usize {
     }
 }
 
-fn put_row<C: Catalogue>(out: &mut String, c: &C, layout: usize, shape: Shape, row: usize, columns: usize) -> fmt::Result
+fn put_row<C: Catalogue>(
+    out: &mut String,
+    c: &C,
+    layout: usize,
+    shape: Shape,
+    row: usize,
+    columns: usize,
+) -> fmt::Result
     requires rows { ⌜ row < 16 ⌝ }
     requires columns { ⌜ columns ≤ 16 ⌝ }
 {

@@ -1,14 +1,14 @@
 //! A report in plain words.
 use crate::answer::Answer;
 use crate::answer::answer_to;
+use crate::picture::put_picture;
+use crate::text::put_joined;
 use design::ask::Ask;
 use design::ask::Entries;
 use design::ask::Question;
+use design::layout_line::LayoutLine;
 use design::names::kind_name;
 use design::names::layer_name;
-use crate::picture::put_picture;
-use design::layout_line::LayoutLine;
-use crate::text::put_joined;
 use layout::catalogue::Catalogue;
 use layout::fault::LayoutFault;
 use layout::index::Index;

@@ -20,7 +20,12 @@ fn gap_before(i: usize, between: &str) -> &str
 }
 
 /// Writes the first `count` items with `between` between them.
-pub fn put_joined<N: Display>(out: &mut String, items: &[N], count: usize, between: &str) -> fmt::Result
+pub fn put_joined<N: Display>(
+    out: &mut String,
+    items: &[N],
+    count: usize,
+    between: &str,
+) -> fmt::Result
     ensures { λ r. ⌜ made r (λ _. (show : N → List ℕ) → ((x : N) → shown x ≡ Some (show x)) → string-bytes (now (out .exit)) ≡ string-bytes (now (out .entry)) ++ separated (now (between .entry)) (map show (take count (now (items .entry))))) ⌝ }
 {
     for (i, item) in items.iter().enumerate() {

@@ -52,11 +52,19 @@ fn read_task(rt: &LibcRuntime) -> io::Result<Option<Task>> {
             source = Some(Source::File(word));
         }
     }
-    Ok(Some(Task { form, source: source.unwrap_or(Source::Input) }))
+    Ok(Some(Task {
+        form,
+        source: source.unwrap_or(Source::Input),
+    }))
 }
 
 /// Prints the answers to a design, or what is wrong with it.
-fn print_answers<'a>(rt: &LibcRuntime, file: &'a str, text: &'a str, form: Form) -> Result<(), Failed> {
+fn print_answers<'a>(
+    rt: &LibcRuntime,
+    file: &'a str,
+    text: &'a str,
+    form: Form,
+) -> Result<(), Failed> {
     match answer_design(rt.alloc(), text, form) {
         Ok(answers) => {
             print!(rt, "{answers}")?;
@@ -70,7 +78,12 @@ fn print_answers<'a>(rt: &LibcRuntime, file: &'a str, text: &'a str, form: Form)
     }
 }
 
-fn answer(rt: &LibcRuntime, file: &str, text: io::Result<String>, form: Form) -> Result<(), Failed> {
+fn answer(
+    rt: &LibcRuntime,
+    file: &str,
+    text: io::Result<String>,
+    form: Form,
+) -> Result<(), Failed> {
     match text {
         Ok(text) => print_answers(rt, file, text.as_str(), form),
         Err(e) => {
@@ -83,8 +96,18 @@ fn answer(rt: &LibcRuntime, file: &str, text: io::Result<String>, form: Form) ->
 fn run(rt: &LibcRuntime, task: Task) -> Result<(), Failed> {
     let Task { form, source } = task;
     match source {
-        Source::Input => answer(rt, "stdin", io::read_to_string(rt.alloc(), rt.stdin()), form),
-        Source::File(file) => answer(rt, file.as_str(), fs::read_to_string(rt, file.as_str()), form),
+        Source::Input => answer(
+            rt,
+            "stdin",
+            io::read_to_string(rt.alloc(), rt.stdin()),
+            form,
+        ),
+        Source::File(file) => answer(
+            rt,
+            file.as_str(),
+            fs::read_to_string(rt, file.as_str()),
+            form,
+        ),
     }
 }
 

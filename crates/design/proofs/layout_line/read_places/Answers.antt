@@ -28,8 +28,7 @@ loop-word-again c =
     let got = c .in-Continue-entry .ensures tt in
     let e = c .in-Continue-entry .entry in
     let w = c .in-Some .word .now in
-    let is = natural-read 16 w e (subst (ReadsUnsigned 16 10 w) (got .2) (got .1 .0)) in
-    (
+    let is = natural-read 16 w e (subst (ReadsUnsigned 16 10 w) (got .2) (got .1 .0)) in (
       c .loop-word .inv .0,
       omega arith,
       one-entry (c .loop-word .inv .2) w e _ _ took is (pushed (e ∷ []) refl (c .in-Continue-push .was tt) (c .push .ensures .items)),

@@ -9,8 +9,7 @@ use Rattle.report.proofs.facts.put_words.Needs as need
 pub loop-word-again : need.loop-word-again
 loop-word-again c =
     let old = c .loop-word .inv in
-    let word = c .in-Some .word .now in
-    (
+    let word = c .in-Some .word .now in (
       old .0 ++ (word ∷ []),
       old .1 ∙ ap (λ l. old .0 ++ l) (c .in-Some .ensures tt .takes) ∙ sym (append-assoc (old .0) (word ∷ []) _),
       c .in-Continue-write .ensures tt .bytes ∙ ap (λ l. l ++ before-blank word) (old .2) ∙ joined-more before-blank _ (old .0) word,
