@@ -18,6 +18,12 @@ mod tests {
     use layout::find::eq_nonzeros;
     use layout::find::find_nnz_index;
     use layout::kind::LayoutKind;
+    use reader::element::FloatElement;
+    use reader::element::MarkElement;
+    use reader::read::read;
+    use reader::record::BlockRecord;
+    use reader::record::ReaderFault;
+    use reader::record::ReaderFaultPartialEq;
     use std::test::*;
     use table::record::LayoutRecord;
     use table::rules::check_records;
@@ -184,5 +190,29 @@ mod tests {
                     },
             ),
         }
+    }
+
+    #[test]
+    fn follows_a_record() -> Result<(), Fail> {
+        let a = record(LayoutKind::Sparse, 2, [3, 3, 0, 0], 0, 3);
+        let rows = record(LayoutKind::Sparse, 1, [3, 0, 0, 0], 6, 2);
+        let records = [a, rows];
+        let pool = [0, 0, 0, 2, 2, 1, 0, 2];
+        if check_records(&records, &pool).is_err() {
+            return Err(Fail::new("a faulty record"));
+        }
+        let t = Table::new(&records, &pool);
+        let mut index = [0; 4];
+        let Ok(block) = BlockRecord::new(&t, 0, 1, [0, 0, 0, 0], 1, &mut index, 0) else {
+            return Err(Fail::new("a refused block"));
+        };
+        check(index == [0, 2, 2, 3])?;
+        let mut sums = [0.0, 0.0];
+        check(read(&block, &index, &[1.0, 2.0, 4.0], &mut sums) == Ok(()))?;
+        check(sums[0] == 3.0 && sums[1] == 4.0)?;
+        let mut marks = [0u64, 0];
+        check(read(&block, &index, &[1, 2, 4], &mut marks) == Ok(()))?;
+        check(marks == [3, 4])?;
+        check(read(&block, &index, &[1, 2], &mut marks) == Err(ReaderFault::Short))
     }
 }

@@ -54,7 +54,7 @@ shape-is ls n s e = shape-was (ltb n (length ls)) (getD ls n blank) s e
 abbrev first : List ℤ × Bool → List ℤ
 first p = p .0
 
-place-is : (ls : List Layout) (n k : ℕ) → n < length ls → k < count (getD ls n blank) → place-asked ls n k .0 ≡ index-of (at (getD ls n blank) k)
+pub place-is : (ls : List Layout) (n k : ℕ) → n < length ls → k < count (getD ls n blank) → place-asked ls n k .0 ≡ index-of (at (getD ls n blank) k)
 place-is ls n k h l = ap (λ b. first (cond b (index-of (at (getD ls n blank) k), true) (index-of origin, false))) (ap (λ b. b && ltb k (count (getD ls n blank))) (lt-ltb n (length ls) h) ∙ lt-ltb k (count (getD ls n blank)) l)
 
 module _ (ls : List Layout) (valid : AllValid ls) (a b : ℕ) (ha : a < length ls) (hb : b < length ls) (s t : Shape) (es : Ok s ≡ shape-asked ls a) (et : Ok t ≡ shape-asked ls b) where

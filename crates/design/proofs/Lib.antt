@@ -1,0 +1,5 @@
+mod Adding
+mod Hashes
+mod Listing
+mod Runs
+mod Said

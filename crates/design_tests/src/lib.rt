@@ -1,0 +1,5 @@
+//! Tests of reading designs and of reports.
+#[cfg(test)]
+mod refusals;
+#[cfg(test)]
+mod reports;

@@ -1,0 +1,13 @@
+pub mod Fronts
+pub mod Bounds
+pub mod Covering
+pub mod Ranging
+pub mod Landing
+pub mod Going
+pub mod Meeting
+pub mod Counts
+pub mod Ranged
+pub mod Rising
+pub mod Accepting
+pub mod Lawfulness
+pub mod Entering
