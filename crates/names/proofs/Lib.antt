@@ -1,0 +1,4 @@
+pub mod Slotting
+pub mod Scalars
+pub mod Indexing
+pub mod Picking
