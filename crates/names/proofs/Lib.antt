@@ -2,3 +2,4 @@ pub mod Slotting
 pub mod Scalars
 pub mod Indexing
 pub mod Picking
+pub mod Standing
