@@ -3,3 +3,4 @@ pub mod Scalars
 pub mod Indexing
 pub mod Picking
 pub mod Standing
+pub mod Running

@@ -2,3 +2,4 @@ pub mod Faults
 pub mod Reading
 pub mod Variables
 pub mod Checks
+pub mod Outcomes

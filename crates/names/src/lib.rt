@@ -3,6 +3,7 @@
 pub mod asks;
 pub mod check;
 pub mod element;
+pub mod evaluate;
 pub mod fault;
 pub mod permutation;
 pub mod read;
