@@ -4,3 +4,4 @@ pub mod Indexing
 pub mod Picking
 pub mod Standing
 pub mod Running
+pub mod Gathering

@@ -1,6 +1,7 @@
 //! Refusals above expressions.
 ghost use mathlib.Core.Path.{_≡_};
 ghost use Rattle.names.specs.Faults.{reported};
+ghost use Rattle.names.specs.declared.fault.NamesFault.the-variants.{Layout as Of-layout, Expression as Of-expression};
 use expression::fault::ExpressionFault;
 use expression::fault::ExpressionFaultPartialEq;
 use layout::fault::Layer;
@@ -33,5 +34,21 @@ impl NamesFault {
                 place: 0,
             },
         }
+    }
+}
+
+pub impl From<LayoutFault> for NamesFault as NamesFaultFromLayout {
+    ghost converts = { λ e r. r ≡ Of-layout e };
+
+    fn from(fault: LayoutFault) -> NamesFault {
+        NamesFault::Layout(fault)
+    }
+}
+
+pub impl From<ExpressionFault> for NamesFault as NamesFaultFromExpression {
+    ghost converts = { λ e r. r ≡ Of-expression e };
+
+    fn from(fault: ExpressionFault) -> NamesFault {
+        NamesFault::Expression(fault)
     }
 }

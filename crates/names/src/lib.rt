@@ -6,5 +6,6 @@ pub mod element;
 pub mod evaluate;
 pub mod fault;
 pub mod permutation;
+pub mod places;
 pub mod read;
 pub mod variable;
