@@ -5,3 +5,4 @@ pub mod Picking
 pub mod Standing
 pub mod Running
 pub mod Gathering
+pub mod Tabling

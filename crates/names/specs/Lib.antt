@@ -3,3 +3,4 @@ pub mod Reading
 pub mod Variables
 pub mod Checks
 pub mod Outcomes
+pub mod Tables
