@@ -6,3 +6,4 @@ pub mod Standing
 pub mod Running
 pub mod Gathering
 pub mod Tabling
+pub mod Owning

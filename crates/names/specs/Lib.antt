@@ -4,3 +4,4 @@ pub mod Variables
 pub mod Checks
 pub mod Outcomes
 pub mod Tables
+pub mod Worked

@@ -6,6 +6,7 @@ pub mod check;
 pub mod element;
 pub mod evaluate;
 pub mod fault;
+pub mod laws;
 pub mod permutation;
 pub mod places;
 pub mod read;
