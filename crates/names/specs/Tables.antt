@@ -23,7 +23,7 @@ use Rattle.names.specs.declared.fault.NamesFault.the-variants.{Layout as Of-la
 use Rattle.names.specs.Reading.{permutation, table-element, element}
 use Rattle.names.specs.Checks.{fitting}
 
--- the entry of a place that has no number in the name's layout
+-- the entry of a place that has no number in the name's layout: -1
 abbrev pub absent : ℤ
 absent = negsuc 0
 

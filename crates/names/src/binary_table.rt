@@ -82,6 +82,7 @@ pub fn to_binary_data_layout<C: Catalogue>(
 ) -> Result<usize, NamesFault>
     ensures { λ r. ⌜ Put-from at (table-asked (layouts (now (c .entry))) layout source (slots-of (now (permutation .entry))) at (length (now (table .entry)))) (now (table .entry)) (now (table .exit)) r ⌝ }
 {
+    // What is counted is valid.
     let _ = c.count();
     let shape = c.shape(layout)?;
     let count = c.shape(source)?.count;

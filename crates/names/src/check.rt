@@ -220,6 +220,7 @@ pub fn expression_fault<C: Catalogue>(
     if !is_well_formed(nodes) {
         return Err(ExpressionFault::Malformed);
     }
+    // What is counted is valid.
     let _ = c.count();
     let shape = shape_at(c, source);
     check_names(

@@ -3,7 +3,7 @@ ghost use mathlib.Core.Path.{_≡_};
 ghost use mathlib.Core.Bool.{true};
 ghost use Prim.Native.Nat.{_≤_};
 ghost use lib.ListN.{length, getD};
-ghost use Rattle.layout.specs.Layouts.{blank};
+ghost use Rattle.layout.specs.Layouts.{AllValid, blank};
 ghost use Rattle.expression.specs.Nodes.{known, takes, well-formed};
 ghost use Rattle.expression.specs.Values.{node-value, evaluated};
 ghost use Rattle.names.specs.Variables.{environment, values as constants-of, reading};
@@ -36,6 +36,7 @@ fn value_of_node<C: Catalogue, H: Host>(
     node: Node,
     taken: &[f64],
 ) -> Option<f64>
+    requires valid { ⌜ AllValid (layouts (now c)) ⌝ }
     requires block { ⌜ length (now block) ≤ 4 ⌝ }
     requires taken { ⌜ length (now taken) ≡ takes node ⌝ }
     ensures { λ r. ⌜ r ≡ node-value (answers (now (host .entry))) (reading (environment (layouts (now (c .entry))) (now (variables .entry))) (constants-of (layouts (now (c .entry))) (now (constants .entry)) (now (variables .entry))) (now (block .entry)) x) node (now (taken .entry)) ⌝ }
@@ -67,6 +68,7 @@ fn run<C: Catalogue, H: Host>(
     x: Index,
     nodes: &[Node],
 ) -> Result<f64, usize>
+    requires valid { ⌜ AllValid (layouts (now c)) ⌝ }
     requires block { ⌜ length (now block) ≤ 4 ⌝ }
     requires formed { ⌜ well-formed (now nodes) ≡ true ⌝ }
     ensures { λ r. ⌜ r ≡ evaluated (node-value (answers (now (host .entry))) (reading (environment (layouts (now (c .entry))) (now (variables .entry))) (constants-of (layouts (now (c .entry))) (now (constants .entry)) (now (variables .entry))) (now (block .entry)) x)) (now (nodes .entry)) ⌝ }
@@ -108,6 +110,7 @@ pub(crate) fn evaluate_checked<C: Catalogue, H: Host>(
     number: usize,
     nodes: &[Node],
 ) -> Result<f64, ExpressionFault>
+    requires valid { ⌜ AllValid (layouts (now c)) ⌝ }
     requires block { ⌜ length (now block) ≤ 4 ⌝ }
     requires formed { ⌜ well-formed (now nodes) ≡ true ⌝ }
     ensures { λ r. ⌜ r ≡ value-at (answers (now (host .entry))) (environment (layouts (now (c .entry))) (now (variables .entry))) (constants-of (layouts (now (c .entry))) (now (constants .entry)) (now (variables .entry))) (now (block .entry)) (getD (layouts (now (c .entry))) source blank) (now (nodes .entry)) number ⌝ }
@@ -134,6 +137,8 @@ pub fn evaluate_at<C: Catalogue, H: Host>(
 ) -> Result<f64, ExpressionFault>
     ensures { λ r. ⌜ r ≡ outcome-of (answers (now (host .entry))) (layouts (now (c .entry))) (now (variables .entry)) opened (now (constants .entry)) letters source (now (nodes .entry)) number ⌝ }
 {
+    // What is counted is valid.
+    let _ = c.count();
     expression_fault(c, variables, opened, true, letters, source, nodes)?;
     evaluate_checked(
         c,

@@ -3,7 +3,7 @@ ghost use mathlib.Core.Path.{_≡_};
 ghost use mathlib.Core.Bool.{true};
 ghost use Prim.Native.Nat.{_≤_};
 ghost use lib.ListN.{length, getD};
-ghost use Rattle.layout.specs.Layouts.{blank};
+ghost use Rattle.layout.specs.Layouts.{AllValid, blank};
 ghost use Rattle.expression.specs.Nodes.{well-formed};
 ghost use Rattle.names.specs.Variables.{environment, values as constants-of};
 ghost use Rattle.names.specs.Outcomes.{value-at, gathered, outcomes-of, Put-in-front};
@@ -34,6 +34,7 @@ fn write_values<C: Catalogue, H: Host>(
     nodes: &[Node],
     out: &mut [f64],
 ) -> Result<(), ExpressionFault>
+    requires valid { ⌜ AllValid (layouts (now c)) ⌝ }
     requires block { ⌜ length (now block) ≤ 4 ⌝ }
     requires formed { ⌜ well-formed (now nodes) ≡ true ⌝ }
     requires room { ⌜ count ≤ length (now out) ⌝ }
@@ -62,6 +63,8 @@ pub fn evaluate_places<C: Catalogue, H: Host>(
 ) -> Result<(), NamesFault>
     ensures { λ r. ⌜ Put-in-front (outcomes-of (answers (now (host .entry))) (layouts (now (c .entry))) (now (variables .entry)) opened (now (constants .entry)) letters source (now (nodes .entry)) (length (now (out .entry)))) (now (out .entry)) (now (out .exit)) r ⌝ }
 {
+    // What is counted is valid.
+    let _ = c.count();
     expression_fault(c, variables, opened, true, letters, source, nodes)?;
     let shape = shape_at(c, source);
     if shape.count > out.len() {

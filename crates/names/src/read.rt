@@ -3,6 +3,7 @@ ghost use mathlib.Core.Path.{_≡_};
 ghost use Prim.Native.Nat.{_+_, _≤_};
 ghost use lib.ListN.{length, getD};
 ghost use Rattle.std.specs.Floats.{zero as zero-value};
+ghost use Rattle.layout.specs.Layouts.{AllValid};
 ghost use Rattle.names.specs.Reading.{picked, element as element-of};
 ghost use Rattle.names.specs.Variables.{layout-of, values-of, environment, values, reading};
 use crate::element::element;
@@ -35,11 +36,11 @@ fn read_record<C: Catalogue>(
     name: &[u8],
     v: VariableRecord,
 ) -> f64
+    requires valid { ⌜ AllValid (layouts (now c)) ⌝ }
     requires block { ⌜ length (now block) ≤ 4 ⌝ }
     requires name { ⌜ length (now name) ≤ 4 ⌝ }
     ensures { λ r. ⌜ r ≡ picked (values-of (layouts (now (c .entry))) (now (constants .entry)) v) (element-of (layout-of (layouts (now (c .entry))) (v .layout)) (now (block .entry)) x (now (name .entry))) ⌝ }
 {
-    let _ = c.count();
     match element(c, v.layout, block, x, name) {
         Some(n) => constant_at(constants, v.offset, n),
         None => 0.0,
@@ -56,7 +57,8 @@ pub(crate) fn read_name<C: Catalogue>(
     variable: VariableNumber,
     letters: Letters,
 ) -> f64
-    requires { ⌜ length (now block) ≤ 4 ⌝ }
+    requires valid { ⌜ AllValid (layouts (now c)) ⌝ }
+    requires block { ⌜ length (now block) ≤ 4 ⌝ }
     ensures { λ r. ⌜ r ≡ reading (environment (layouts (now (c .entry))) (now (variables .entry))) (values (layouts (now (c .entry))) (now (constants .entry)) (now (variables .entry))) (now (block .entry)) x variable letters ⌝ }
 {
     match record_of(variables, variable) {

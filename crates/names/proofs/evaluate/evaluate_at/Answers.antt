@@ -12,7 +12,7 @@ use Rattle.names.proofs.Standing.{well}
 use Rattle.names.proofs.evaluate.evaluate_at.Needs as need
 
 pub evaluate-checked-requires : need.evaluate-checked-requires
-evaluate-checked-requires g c κs = record { block = c .meant .ensures .few; formed = well (well-formed (c .args .nodes .now)) _ _ (c .in-Continue-expression-fault .ensures tt) }
+evaluate-checked-requires g c κs = record { valid = c .count .ensures .valid; block = c .meant .ensures .few; formed = well (well-formed (c .args .nodes .now)) _ _ (c .in-Continue-expression-fault .ensures tt) }
 
 pub returns : need.returns
 returns g c =

@@ -18,6 +18,7 @@ value-of-node-requires g c κs =
     let t = c .values-taken .result in
     let k : t ≤ d = node-takes (c .args .nodes .now) d (c .loop-i .i) t _ (c .loop-i-test .taken) (c .loop-i .inv .2) (c .values-taken .ensures) in
     record {
+      valid = c .pre .valid;
       block = c .pre .block;
       taken = part-length (c .loop-i .stack) d t (omega arith) k ∙ c .values-taken .ensures;
     }
