@@ -7,9 +7,9 @@ use native.Mathlib.Omega.{arith}
 use lib.Dec.{eqb, leb}
 use lib.ListN.{length, getD, drop}
 use Rattle.std.proofs.shelf.Lists.{at-drop-more, at-drop-all}
-use Rattle.std.proofs.shelf.Tests.{and-parts, and-right, and-left, leb-true, le-leb}
+use Rattle.std.proofs.shelf.Tests.{and-parts, and-right, and-left, leb-true}
 use Rattle.expression.specs.declared.node.Node.{Node}
-use Rattle.expression.specs.Nodes.{known, takes, may-follow, sound-from, well-formed}
+use Rattle.expression.specs.Nodes.{known, takes, may-follow, sound-from, sound-count, well-formed}
 
 pub sound-step : (ns : List Node) (d i : ℕ) (e : Node) → i < length ns → sound-from d (drop i ns) ≡ (may-follow d (getD ns i e) && sound-from (d - takes (getD ns i e) + 1) (drop (i + 1) ns))
 sound-step ns d i e h = at-drop-more (sound-from d) ns i e h
@@ -30,9 +30,5 @@ followed-on ns d i t e h f w inv =
     let s : sound-from (d - takes (getD ns i e) + 1) (drop (i + 1) ns) ≡ sound-from 0 ns = sym (sound-step ns d i e h ∙ ap (λ b. b && sound-from (d - takes (getD ns i e) + 1) (drop (i + 1) ns)) (sym f)) ∙ inv in
     (omega arith, ap (λ k. sound-from (d - k + 1) (drop (i + 1) ns)) w ∙ s)
 
-pub formed : (ns : List Node) (d i : ℕ) → length ns ≤ i → 1 ≤ length ns → length ns ≤ 256 → sound-from d (drop i ns) ≡ sound-from 0 ns → eqb d 1 ≡ well-formed ns
-formed ns d i h l m inv =
-    let a = le-leb 1 (length ns) l in
-    let b = le-leb (length ns) 256 m in
-    let e : eqb d 1 ≡ sound-from 0 ns = sym (at-drop-all (sound-from d) ns i h) ∙ inv in
-    simp (a, b) e
+pub formed : (ns : List Node) (d i : ℕ) → length ns ≤ i → true ≡ sound-count (length ns) → sound-from d (drop i ns) ≡ sound-from 0 ns → eqb d 1 ≡ well-formed ns
+formed ns d i h e inv = sym (at-drop-all (sound-from d) ns i h) ∙ inv ∙ ap (λ b. b && sound-from 0 ns) e

@@ -49,6 +49,9 @@ abbrev pub sound-from : ℕ → List Node → Bool
 sound-from d [] = eqb d 1
 sound-from d (n ∷ ns) = may-follow d n && sound-from (d - takes n + 1) ns
 
+abbrev pub sound-count : ℕ → Bool
+sound-count n = leb 1 n && leb n 256
+
 -- 1 to 256 nodes, at most 32 values deep, that leave one value
 abbrev pub well-formed : List Node → Bool
-well-formed ns = (leb 1 (length ns) && leb (length ns) 256) && sound-from 0 ns
+well-formed ns = sound-count (length ns) && sound-from 0 ns

@@ -1,7 +1,7 @@
 //! Whether nodes are an expression.
 ghost use mathlib.Core.Path.{_≡_};
 ghost use Prim.Native.Nat.{_<_, _≤_};
-ghost use Rattle.expression.specs.Nodes.{small-letter, letter-at, sound-letters, sound-call, known, takes, may-follow, well-formed};
+ghost use Rattle.expression.specs.Nodes.{small-letter, letter-at, sound-letters, sound-call, known, takes, may-follow, sound-count, well-formed};
 use crate::node::Letters;
 use crate::node::Node;
 
@@ -69,6 +69,12 @@ pub fn values_taken(node: Node) -> usize
     }
 }
 
+fn count_sound(count: usize) -> bool
+    ensures { λ r. ⌜ r ≡ sound-count count ⌝ }
+{
+    (1 <= count) & (count <= 256)
+}
+
 /// Whether a node may follow where `depth` values lie.
 fn can_follow(depth: usize, node: Node) -> bool
     requires { ⌜ depth ≤ 32 ⌝ }
@@ -85,7 +91,7 @@ fn can_follow(depth: usize, node: Node) -> bool
 pub fn is_well_formed(nodes: &[Node]) -> bool
     ensures { λ r. ⌜ r ≡ well-formed (now (nodes .entry)) ⌝ }
 {
-    if nodes.len() < 1 || nodes.len() > 256 {
+    if !count_sound(nodes.len()) {
         return false;
     }
     let mut depth = 0;

@@ -3,14 +3,14 @@ use mathlib.Core.Path.{_≡_, refl, sym, ap, _∙_, subst}
 use mathlib.Core.List.{List, [], _∷_, _++_, map}
 use mathlib.Core.Bool.{Bool, true, false, cond, _&&_}
 use mathlib.Core.Logic.{_⊎_, inl, inr}
-use Prim.Native.Nat.{ℕ, _+_, _-_, _<_, _≤_}
+use Prim.Native.Nat.{ℕ, _+_, _<_, _≤_}
 use native.Mathlib.Omega.{arith}
 use lib.Dec.{eqb, ltb, leb}
 use lib.IntN.{ℤ, pos}
 use lib.ListN.{length, getD, drop, take, set}
 use Rattle.std.proofs.shelf.Lists.{at-drop-more, at-drop-all, getD-past, getD-map, length-map}
 use Rattle.std.proofs.shelf.Edits.{paste-more, paste-all}
-use Rattle.std.proofs.shelf.Tests.{eq-eqb, ne-eqb, cases-lt, cases-bool, le-leb}
+use Rattle.std.proofs.shelf.Tests.{eq-eqb, ne-eqb, cases-lt, cases-bool}
 use Rattle.std.specs.shelf.Lists.{paste}
 use Rattle.std.specs.Slices.{found}
 use Rattle.std.specs.declared.option.Option.{Option}
@@ -83,14 +83,14 @@ answered f ls n x h =
       | inr t ↦ absurd (ok-not x Unknown (h ∙ ap (λ b. cond b (Ok (f (getD ls n blank))) (Err Unknown)) t))
     ]
 
-pub table-put : (ls : List Layout) (l s : ℕ) (slots meant : List ℕ) (from : ℕ) (before after : List ℤ) (x y : Shape) → Ok x ≡ shape-asked ls l → Ok y ≡ shape-asked ls s → slots ≡ meant → from ≤ length before → y .count ≤ length before - from → after ≡ paste before from (binary-table (getD ls l blank) (getD ls s blank) slots) (y .count) → Put-from from (table-asked ls l s meant from (length before)) before after (Ok (from + y .count))
-table-put ls l s slots meant from before after x y a b e h g w =
+pub table-put : (ls : List Layout) (l s : ℕ) (slots meant : List ℕ) (from : ℕ) (before after : List ℤ) (x y : Shape) → Ok x ≡ shape-asked ls l → Ok y ≡ shape-asked ls s → slots ≡ meant → true ≡ leb (from + y .count) (length before) → after ≡ paste before from (binary-table (getD ls l blank) (getD ls s blank) slots) (y .count) → Put-from from (table-asked ls l s meant from (length before)) before after (Ok (from + y .count))
+table-put ls l s slots meant from before after x y a b e h w =
     let p = answered shape-of ls l x a in
     let q = answered shape-of ls s y b in
     let t = binary-table (getD ls l blank) (getD ls s blank) meant in
     let n : y .count ≡ count (getD ls s blank) = ap (λ (z : Shape). z .count) (q .1) in
     let m : y .count ≡ length t = n ∙ sym (length-map (getD ls s blank .places) (λ p. entry-of (table-element (getD ls l blank) meant (index-of p)))) in
-    let le : leb (from + count (getD ls s blank)) (length before) ≡ true = le-leb (from + count (getD ls s blank)) (length before) (omega arith) in
+    let le : leb (from + count (getD ls s blank)) (length before) ≡ true = ap (λ k. leb (from + k) (length before)) (sym n) ∙ sym h in
     let lt = p .0 in
     let st = q .0 in
     rw (lt, st, le) (

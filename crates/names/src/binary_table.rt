@@ -2,6 +2,7 @@
 ghost use mathlib.Core.Path.{_≡_};
 ghost use mathlib.Core.List.{_++_};
 ghost use Prim.Native.Nat.{_+_, _<_, _≤_};
+ghost use lib.Dec.{leb};
 ghost use lib.ListN.{length, getD, take, drop};
 ghost use Rattle.std.specs.Slices.{found};
 ghost use Rattle.std.specs.shelf.Lists.{paste};
@@ -70,6 +71,13 @@ fn write_table<C: Catalogue>(
     }
 }
 
+/// Whether a list has room for `count` more from a position on.
+fn has_room(length: usize, at: usize, count: usize) -> bool
+    ensures { λ r. ⌜ r ≡ leb (at + count) length ⌝ }
+{
+    at <= length && count <= length - at
+}
+
 /// Appends the binary table of a name's layout under a source at a position of `table`, and gives
 /// the position after it. Refused where a layout does not exist, and then for want of room.
 pub fn to_binary_data_layout<C: Catalogue>(
@@ -86,7 +94,7 @@ pub fn to_binary_data_layout<C: Catalogue>(
     let _ = c.count();
     let shape = c.shape(layout)?;
     let count = c.shape(source)?.count;
-    if at > table.len() || count > table.len() - at {
+    if !has_room(table.len(), at, count) {
         return Err(NamesFault::NoRoom);
     }
     write_table(

@@ -8,4 +8,4 @@ pub loop-i-again : need.loop-i-again
 loop-i-again c = followed-on (c .args .nodes .now) (c .loop-i .depth) (c .loop-i .i) _ _ (c .loop-i-test .taken) (c .if-not-can-follow .ensures tt) (c .values-taken .ensures) (c .loop-i .inv .1)
 
 pub returns : need.returns
-returns c = formed (c .args .nodes .now) (c .loop-i .depth) (c .loop-i .i) (c .loop-i-test .left) (c .if-nodes-lt1 .left) (c .if-nodes-gt256 .left) (c .loop-i .inv .1)
+returns c = formed (c .args .nodes .now) (c .loop-i .depth) (c .loop-i .i) (c .loop-i-test .left) (c .if-not-count-sound .ensures tt) (c .loop-i .inv .1)
