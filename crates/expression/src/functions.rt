@@ -2,7 +2,7 @@
 ghost use mathlib.Core.Path.{_≡_};
 ghost use mathlib.Core.List.{_∷_, []};
 ghost use Prim.Native.Nat.{_≤_};
-ghost use lib.Ieee.{neg};
+ghost use lib.Ieee.{le, neg};
 ghost use lib.ListN.{length};
 ghost use Rattle.std.specs.Options.{mapped};
 ghost use Rattle.expression.specs.Values.{binary as binary-value, unary as unary-value, heaviside as heaviside-value, logistic as logistic-value, piecewise as piecewise-value, called};
@@ -32,10 +32,17 @@ pub fn unary(operator: UnaryOperator, x: f64) -> f64
     }
 }
 
+/// Whether a condition holds.
+fn holds(condition: f64) -> bool
+    ensures { λ r. do ⌜ r ≡ le (← ⟦0.0f64⟧ .entry) condition ⌝ }
+{
+    condition >= 0.0
+}
+
 fn heaviside(x: f64) -> f64
     ensures { λ r. ⌜ r ≡ heaviside-value x ⌝ }
 {
-    if x >= 0.0 { 1.0 } else { 0.0 }
+    if holds(x) { 1.0 } else { 0.0 }
 }
 
 fn logistic(e: f64) -> f64
@@ -51,7 +58,7 @@ fn piecewise(arguments: &[f64]) -> f64
 {
     let n = arguments.len();
     for i in 0..(n - 1) / 2 {
-        if arguments[2 * i] >= 0.0 {
+        if holds(arguments[2 * i]) {
             return arguments[2 * i + 1];
         }
     }
