@@ -40,9 +40,9 @@ module _ {E : Type 0} (g : ℕ → Result Float E) (before : List Float) where
         | inr q ↦ ap (λ r. followed r (g n)) (stays m n e (omega arith) t)
       ]
 
-  pub front-stops : (out after : List Float) (k n : ℕ) (e : E) (r : Result (Unit {0}) E) → k < n → Err e ≡ g k → r ≡ Err e → Front k out → Put-in-front (gathered g n) before after r
-  front-stops out after k n e r h t q f =
-      rw (stays (suc k) n e h (ap (λ r. followed r (g k)) (f .given) ∙ ap (followed (Ok (take k out))) (sym t))) q
+  pub front-stops : (out after : List Float) (k n : ℕ) (e d : E) (r : Result (Unit {0}) E) → k < n → Err e ≡ g k → r ≡ Err d → d ≡ e → Front k out → Put-in-front (gathered g n) before after r
+  front-stops out after k n e d r h t q p f =
+      rw (stays (suc k) n e h (ap (λ r. followed r (g k)) (f .given) ∙ ap (followed (Ok (take k out))) (sym t))) (q ∙ ap (λ y. Err y) p)
 
   pub front-all : (out : List Float) (k n : ℕ) → k ≡ n → n ≤ length before → Front k out → Put-in-front (gathered g n) before out (Ok tt)
   front-all out k n q h f =

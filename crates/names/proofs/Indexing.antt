@@ -9,8 +9,10 @@ use lib.IntN.{ℤ, pos}
 use lib.ListN.{length, getD, set, drop}
 use Rattle.std.proofs.shelf.Lists.{at-drop-more, at-drop-all, set-past, getD-default}
 use Rattle.std.proofs.shelf.Tests.{ltb-false, ne-eqb}
+use Rattle.std.specs.declared.option.Option.{Option}
+use Rattle.layout.specs.Layouts.{Layout, rank, wide}
 use Rattle.expression.specs.Letterings.{position}
-use Rattle.names.specs.Reading.{dense-entry, scattered, permuted}
+use Rattle.names.specs.Reading.{dense-entry, scattered, permuted, table-element}
 
 pub unput : (b : Bool) (y : List ℤ) (slot : ℕ) (e : ℤ) → length y ≡ 4 → (b && ltb slot 4) ≡ false → y ≡ cond b (set y slot e) y
 unput true y slot e n h = let l = ltb-false slot 4 h in sym (set-past y slot e (omega arith))
@@ -27,3 +29,7 @@ scatter-more r x slots y z i q h e inv = ap (scattered r x (i + 1) (drop (i + 1)
 
 pub scatter-all : (r : ℕ) (x : List ℤ) (slots : List ℕ) (y : List ℤ) (i : ℕ) (q : List ℤ) → length slots ≤ i → scattered r x i (drop i slots) y ≡ q → y ≡ q
 scatter-all r x slots y i q h inv = sym (at-drop-all (λ l. scattered r x i l y) slots i h) ∙ inv
+
+-- the number that is found at the permuted index is the element that is read
+pub element-is : (l : Layout) (slots meant : List ℕ) (r : ℕ) (x y z : List ℤ) (o : Option ℕ) → o ≡ wide l z → z ≡ permuted r slots x → slots ≡ meant → r ≡ rank l → x ≡ y → o ≡ table-element l meant y
+element-is l slots meant r x y z o e f g h k = e ∙ ap (wide l) (f ∙ ap (λ s. permuted r s x) g ∙ ap (λ n. permuted n meant x) h ∙ ap (permuted (rank l) meant) k)

@@ -7,3 +7,4 @@ pub mod Running
 pub mod Gathering
 pub mod Tabling
 pub mod Owning
+pub mod Valuing

@@ -37,8 +37,8 @@ module _ (env : ℕ → Option Variable) (ready : ℕ → Bool) (constant : Bool
   names-step : (e : Node) → i < length ns → names-check env ready constant block s i (drop i ns) ≡ and-then (node-check env ready constant block s i (getD ns i e)) (names-check env ready constant block s (i + 1) (drop (i + 1) ns))
   names-step e h = at-drop-more (names-check env ready constant block s i) ns i e h
 
-  pub name-refused : (e : Node) (f : ExpressionFault) → i < length ns → Err f ≡ node-check env ready constant block s i (getD ns i e) → names-check env ready constant block s i (drop i ns) ≡ q → Err f ≡ q
-  name-refused e f h t inv = sym (names-step e h ∙ ap (λ o. and-then o (names-check env ready constant block s (i + 1) (drop (i + 1) ns))) (sym t)) ∙ inv
+  pub name-refused : (e : Node) (f g : ExpressionFault) (r : Verdict) → r ≡ Err g → g ≡ f → i < length ns → Err f ≡ node-check env ready constant block s i (getD ns i e) → names-check env ready constant block s i (drop i ns) ≡ q → r ≡ q
+  name-refused e f g r k m h t inv = k ∙ ap (λ f. Err f) m ∙ sym (names-step e h ∙ ap (λ o. and-then o (names-check env ready constant block s (i + 1) (drop (i + 1) ns))) (sym t)) ∙ inv
 
   pub name-stands : (e : Node) (u : Unit {0}) → i < length ns → Ok u ≡ node-check env ready constant block s i (getD ns i e) → names-check env ready constant block s i (drop i ns) ≡ q → names-check env ready constant block s (i + 1) (drop (i + 1) ns) ≡ q
   name-stands e u h t inv = sym (names-step e h ∙ ap (λ o. and-then o (names-check env ready constant block s (i + 1) (drop (i + 1) ns))) (sym t)) ∙ inv

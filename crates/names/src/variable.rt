@@ -3,14 +3,14 @@ ghost use mathlib.Core.Path.{_≡_};
 ghost use Rattle.names.specs.Variables.{recorded, described as described-by, ready-but, is-constant as constant-class};
 use expression::node::VariableNumber;
 
-/// When the values of a variable are known.
+/// Where the values of a variable are kept.
 #[derive(Clone, Copy)]
 pub enum Class {
-    /// Once and for all.
+    /// Among the constants.
     Constant,
-    /// With the data of a call.
+    /// Among the data.
     Data,
-    /// Never: they are worked out where they are read.
+    /// In neither.
     Unstored,
 }
 
@@ -68,6 +68,7 @@ pub(crate) fn is_ready(opened: Option<VariableNumber>, variable: VariableNumber)
     }
 }
 
+/// Whether the values of a class are constant.
 pub(crate) fn is_constant(class: Class) -> bool
     ensures { λ r. ⌜ r ≡ constant-class class ⌝ }
 {

@@ -1,7 +1,5 @@
-use mathlib.Core.Path.{_∙_, ap}
 use native.Mathlib.Omega.{arith}
 use lib.ListN.{getD}
-use Rattle.std.specs.declared.result.Result.the-variants.{Err}
 use Rattle.std.proofs.shelf.Results.{err-from-errBy}
 use Rattle.layout.specs.Layouts.{blank}
 use Rattle.names.specs.Variables.{environment, values}
@@ -14,7 +12,7 @@ returns-in-Break-value g c =
     let ls = g .C·Catalogue .layouts (c .args .c .now) in
     let f = value-at (g .H·Host .answers (c .args .host .now)) (environment ls (c .args .variables .now)) (values ls (c .args .constants .now) (c .args .variables .now)) (c .args .block .now) (getD ls (c .args .source) blank) (c .args .nodes .now) in
     let p = err-from-errBy (c .from-residual .result) (c .from-residual .ensures .1) in
-    front-stops f (c .args .out .now) (c .loop-k .out) (c .loop-k .out) (c .loop-k .k) (c .args .count) (c .in-Break-value .field-0 .0) _ (c .loop-k-test .taken) (c .in-Break-value .ensures tt) (p .1 ∙ ap (λ e. Err e) (p .2)) (c .loop-k .inv)
+    front-stops f (c .args .out .now) (c .loop-k .out) (c .loop-k .out) (c .loop-k .k) (c .args .count) (c .in-Break-value .field-0 .0) (p .0) (c .from-residual .result) (c .loop-k-test .taken) (c .in-Break-value .ensures tt) (p .1) (p .2) (c .loop-k .inv)
 
 pub loop-k-again : need.loop-k-again
 loop-k-again g c =
