@@ -19,27 +19,33 @@ const MINUS: Node = Node::Unary(UnaryOperator::Minus);
 
 #[test]
 fn codes() -> Result<(), Fail> {
-    check(function_code("sin") == Ok(1))?;
-    check(function_code("log10") == Ok(9))?;
-    check(function_code("sqrt") == Ok(10))?;
-    check(function_code("arccosh") == Ok(14))?;
-    check(function_code("piecewise") == Ok(17))?;
-    check(function_code("sec") == Err(ExpressionFault::Malformed))?;
-    check(function_code("") == Err(ExpressionFault::Malformed))?;
-    check(binary_operator('/').is_ok())?;
-    check(binary_operator('%').is_err())?;
-    check(unary_operator('-').is_ok())?;
-    check(unary_operator('*').is_err())
+    check(
+        (function_code("sin") == Ok(1))
+            & (function_code("log10") == Ok(9))
+            & (function_code("sqrt") == Ok(10))
+            & (function_code("arccosh") == Ok(14))
+            & (function_code("piecewise") == Ok(17))
+            & (function_code("sec") == Err(ExpressionFault::Malformed))
+            & (function_code("") == Err(ExpressionFault::Malformed)),
+    )?;
+    check(
+        binary_operator('/').is_ok()
+            & binary_operator('%').is_err()
+            & unary_operator('-').is_ok()
+            & unary_operator('*').is_err(),
+    )
 }
 
 #[test]
 fn node_counts() -> Result<(), Fail> {
     let mut nodes = [MINUS; 257];
     nodes[0] = ONE;
-    check(!is_well_formed(&nodes[0..0]))?;
-    check(is_well_formed(&nodes[0..1]))?;
-    check(is_well_formed(&nodes[0..256]))?;
-    check(!is_well_formed(&nodes))
+    check(
+        !is_well_formed(&nodes[0..0])
+            & is_well_formed(&nodes[0..1])
+            & is_well_formed(&nodes[0..256])
+            & !is_well_formed(&nodes),
+    )
 }
 
 // Numbers in front, one more than the operators behind them.
@@ -54,9 +60,7 @@ fn summed(nodes: &mut [Node]) -> bool {
 
 #[test]
 fn depths() -> Result<(), Fail> {
-    check(summed(&mut [PLUS; 3]))?;
-    check(summed(&mut [PLUS; 63]))?;
-    check(!summed(&mut [PLUS; 65]))
+    check(summed(&mut [PLUS; 3]) & summed(&mut [PLUS; 63]) & !summed(&mut [PLUS; 65]))
 }
 
 fn called(code: u8, arguments: u8) -> bool {
@@ -90,13 +94,21 @@ fn called(code: u8, arguments: u8) -> bool {
 
 #[test]
 fn malformed() -> Result<(), Fail> {
-    check(!is_well_formed(&[PLUS]))?;
-    check(!is_well_formed(&[ONE, PLUS]))?;
-    check(!is_well_formed(&[ONE, ONE]))?;
-    check(!is_well_formed(&[MINUS, ONE]))?;
-    check(called(1, 1) && called(15, 1) && called(16, 2) && called(17, 1) && called(17, 15))?;
-    check(!called(0, 1) && !called(18, 1) && !called(16, 1) && !called(1, 2))?;
-    check(!called(17, 0) && !called(17, 16))
+    check(
+        !is_well_formed(&[PLUS])
+            & !is_well_formed(&[ONE, PLUS])
+            & !is_well_formed(&[ONE, ONE])
+            & !is_well_formed(&[MINUS, ONE]),
+    )?;
+    check(called(1, 1) & called(15, 1) & called(16, 2) & called(17, 1) & called(17, 15))?;
+    check(
+        !called(0, 1)
+            & !called(18, 1)
+            & !called(16, 1)
+            & !called(1, 2)
+            & !called(17, 0)
+            & !called(17, 16),
+    )
 }
 
 fn named(count: u8, codes: &[u8; 4]) -> bool {
@@ -114,6 +126,12 @@ fn named(count: u8, codes: &[u8; 4]) -> bool {
 
 #[test]
 fn letters() -> Result<(), Fail> {
-    check(named(0, b"----") && named(4, b"azaz") && named(2, b"ij--"))?;
-    check(!named(5, b"aaaa") && !named(1, b"A---") && !named(3, b"ij--"))
+    check(
+        named(0, b"----")
+            & named(4, b"azaz")
+            & named(2, b"ij--")
+            & !named(5, b"aaaa")
+            & !named(1, b"A---")
+            & !named(3, b"ij--"),
+    )
 }

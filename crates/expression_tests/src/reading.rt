@@ -116,20 +116,24 @@ fn value(t: &Table, number: usize, node: Node) -> Result<f64, ExpressionFault> {
 
 fn dense_names(t: &Table) -> Result<(), Fail> {
     // place 5 is (1, 2)
-    check(value(t, 5, name(4, 1, b"i---")) == Ok(200.0))?;
-    check(value(t, 5, name(4, 1, b"j---")) == Ok(300.0))?;
-    check(value(t, 5, name(4, 1, b"k---")) == Ok(100.0))?;
-    check(value(t, 5, name(4, 0, b"----")) == Ok(100.0))?;
-    check(value(t, 5, name(5, 2, b"ij--")) == Ok(7.0))?;
-    check(value(t, 5, name(6, 0, b"----")) == Ok(0.5))
+    check(
+        (value(t, 5, name(4, 1, b"i---")) == Ok(200.0))
+            & (value(t, 5, name(4, 1, b"j---")) == Ok(300.0))
+            & (value(t, 5, name(4, 1, b"k---")) == Ok(100.0))
+            & (value(t, 5, name(4, 0, b"----")) == Ok(100.0))
+            & (value(t, 5, name(5, 2, b"ij--")) == Ok(7.0))
+            & (value(t, 5, name(6, 0, b"----")) == Ok(0.5)),
+    )
 }
 
 fn other_names(t: &Table) -> Result<(), Fail> {
-    check(value(t, 4, name(3, 2, b"ij--")) == Ok(20.0))?;
-    check(value(t, 5, name(3, 2, b"ij--")) == Ok(0.0))?;
-    check(value(t, 2, name(2, 2, b"ij--")) == Ok(2.0))?;
-    check(value(t, 5, name(2, 2, b"ji--")) == Ok(4.0))?;
-    check(value(t, 4, name(2, 2, b"ji--")) == Ok(0.0))
+    check(
+        (value(t, 4, name(3, 2, b"ij--")) == Ok(20.0))
+            & (value(t, 5, name(3, 2, b"ij--")) == Ok(0.0))
+            & (value(t, 2, name(2, 2, b"ij--")) == Ok(2.0))
+            & (value(t, 5, name(2, 2, b"ji--")) == Ok(4.0))
+            & (value(t, 4, name(2, 2, b"ji--")) == Ok(0.0)),
+    )
 }
 
 #[test]
@@ -159,23 +163,23 @@ fn names() -> Result<(), Fail> {
     )
 }
 
-// At node 2, after two numbers, over the layout with a number.
+// Whether a node, the third after two numbers, is refused with a number over a layout.
 fn refused(
     t: &Table,
     opened: Option<VariableNumber>,
     source: usize,
     node: Node,
     number: u8,
-) -> Result<(), Fail> {
+) -> bool {
     let plus = Node::Binary(BinaryOperator::Add);
     let one = Node::Number(1.0);
     let nodes = [one, one, node, plus, plus];
     let block = letters(2, b"ij--");
     match expression_fault(t, &variables(), opened, true, block, source, &nodes) {
-        Ok(()) => Err(Fail::new("it may stand")),
+        Ok(()) => false,
         Err(fault) => {
             let r = fault.report();
-            check(r.number == number && r.place == 2 && r.layer == Layer::Expression)
+            (r.number == number) & (r.place == 2) & (r.layer == Layer::Expression)
         }
     }
 }
@@ -188,17 +192,19 @@ fn refusals() -> Result<(), Fail> {
         return Err(Fail::new("a faulty record"));
     }
     let t = Table::new(&records, &pool);
-    refused(&t, None, 1, name(8, 0, b"----"), 21)?;
-    refused(&t, Some(4), 1, name(4, 1, b"i---"), 21)?;
-    refused(&t, None, 1, name(0, 0, b"----"), 10)?;
-    refused(&t, None, 1, name(7, 0, b"----"), 10)?;
-    refused(&t, None, 1, name(4, 2, b"ij--"), 9)?;
-    refused(&t, None, 1, name(3, 0, b"----"), 9)?;
-    refused(&t, None, 1, name(3, 2, b"ii--"), 9)?;
-    // the permutation 2, 0, 1 is longer than the rank of dense 3 by two
-    refused(&t, None, 3, name(2, 2, b"jk--"), 9)?;
-    // dense 3 has no second entry
-    refused(&t, None, 3, name(2, 2, b"ij--"), 9)
+    check(
+        refused(&t, None, 1, name(8, 0, b"----"), 21)
+            & refused(&t, Some(4), 1, name(4, 1, b"i---"), 21)
+            & refused(&t, None, 1, name(0, 0, b"----"), 10)
+            & refused(&t, None, 1, name(7, 0, b"----"), 10)
+            & refused(&t, None, 1, name(4, 2, b"ij--"), 9)
+            & refused(&t, None, 1, name(3, 0, b"----"), 9)
+            & refused(&t, None, 1, name(3, 2, b"ii--"), 9),
+    )?;
+    // over dense 3 the permutation 2, 0, 1 is too long, and 0, 1 uses an entry that is not there
+    check(
+        refused(&t, None, 3, name(2, 2, b"jk--"), 9) & refused(&t, None, 3, name(2, 2, b"ij--"), 9),
+    )
 }
 
 #[test]

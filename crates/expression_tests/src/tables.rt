@@ -43,8 +43,7 @@ fn values(t: &Table) -> Result<(), Fail> {
         letters: letters(1, b"i---"),
     };
     let mut out = [-1.0; 4];
-    check(at_places(t, x, 10, &mut out) == Ok(()))?;
-    check(out == [1.0, 2.0, 3.0, -1.0])?;
+    check((at_places(t, x, 10, &mut out) == Ok(())) & (out == [1.0, 2.0, 3.0, -1.0]))?;
     check(
         at_places(t, x, 7, &mut [0.0; 3])
             == Err(NamesFault::Expression(ExpressionFault::NoHostValue { node: 1 })),
@@ -62,18 +61,22 @@ fn binary_tables(t: &Table) -> Result<(), Fail> {
     let ji = Permutation::new(2, letters(2, b"ij--"), letters(2, b"ji--"));
     let ij = Permutation::new(2, letters(2, b"ij--"), letters(2, b"ij--"));
     let mut table = [7; 11];
-    check(to_binary_data_layout(t, 0, 1, &ji, &mut table, 1) == Ok(10))?;
-    check(table == [7, 0, -1, -1, -1, -1, 2, 1, -1, -1, 7])?;
-    check(to_binary_data_layout(t, 0, 1, &ji, &mut table, 3) == Err(NamesFault::NoRoom))?;
+    check(
+        (to_binary_data_layout(t, 0, 1, &ji, &mut table, 1) == Ok(10))
+            & (table == [7, 0, -1, -1, -1, -1, 2, 1, -1, -1, 7])
+            & (to_binary_data_layout(t, 0, 1, &ji, &mut table, 3) == Err(NamesFault::NoRoom)),
+    )?;
     check(
         to_binary_data_layout(t, 6, 1, &ji, &mut table, 0)
             == Err(NamesFault::Layout(LayoutFault::Unknown)),
     )?;
-    check(table == [7, 0, -1, -1, -1, -1, 2, 1, -1, -1, 7])?;
-    check(needs_no_table(t, 0, 0, &ij) == Ok(true))?;
-    check(needs_no_table(t, 0, 0, &ji) == Ok(false))?;
-    check(needs_no_table(t, 0, 1, &ij) == Ok(false))?;
-    check(needs_no_table(t, 0, 6, &ij) == Err(LayoutFault::Unknown))
+    check(
+        (table == [7, 0, -1, -1, -1, -1, 2, 1, -1, -1, 7])
+            & (needs_no_table(t, 0, 0, &ij) == Ok(true))
+            & (needs_no_table(t, 0, 0, &ji) == Ok(false))
+            & (needs_no_table(t, 0, 1, &ij) == Ok(false))
+            & (needs_no_table(t, 0, 6, &ij) == Err(LayoutFault::Unknown)),
+    )
 }
 
 #[test]
