@@ -32,11 +32,15 @@ by-host (Err i) = Err (fault.NoHostValue i)
 abbrev pub value-at : (ℕ → List Float → Option Float) → (ℕ → Option Variable) → (ℕ → List Float) → List ℕ → Layout → List Node → ℕ → Result Float ExpressionFault
 value-at host env vals block s ns k = by-host (evaluated (node-value host (reading env vals block (index-of (at s k)))) ns)
 
+-- by layouts, records, constants and the source's number
+abbrev pub value-by : (ℕ → List Float → Option Float) → List Layout → List VariableRecord → List Float → List ℕ → ℕ → List Node → ℕ → Result Float ExpressionFault
+value-by host ls rs constants block source ns = value-at host (environment ls rs) (values ls constants rs) block (getD ls source blank) ns
+
 -- in a constant block: what a check refuses, or the value
 abbrev pub outcome : (ℕ → List Float → Option Float) → (ℕ → Option Variable) → (ℕ → List Float) → (ℕ → Bool) → List ℕ → Layout → List Node → ℕ → Result Float ExpressionFault
 outcome host env vals ready block s ns k = and-then (checked env ready true block (rank s) ns) (value-at host env vals block s ns k)
 
--- by records: layouts, records, the open tensor's variable, constants, letters and the source's number
+-- by layouts, records, the open tensor's variable, constants, letters and the source's number
 abbrev pub outcome-of : (ℕ → List Float → Option Float) → List Layout → List VariableRecord → Option ℕ → List Float → Letters → ℕ → List Node → ℕ → Result Float ExpressionFault
 outcome-of host ls rs opened constants l source ns k =
     outcome host (environment ls rs) (values ls constants rs) (ready-but opened) (letters-of l) (getD ls source blank) ns k

@@ -70,6 +70,10 @@ values-by ls constants (Some r) = values-of ls constants r
 abbrev pub values : List Layout → List Float → List VariableRecord → ℕ → List Float
 values ls constants rs v = values-by ls constants (recorded rs v)
 
+-- what a name is by layouts, records and constants
+abbrev pub read-by : List Layout → List VariableRecord → List Float → List ℕ → List ℤ → ℕ → Letters → Float
+read-by ls rs constants = reading (environment ls rs) (values ls constants rs)
+
 -- every variable is ready but that of the open tensor, which has a record
 abbrev pub ready-but : Option ℕ → ℕ → Bool
 ready-but None v = true

@@ -2,12 +2,12 @@
 ghost use mathlib.Core.Path.{_≡_};
 ghost use mathlib.Core.Bool.{true};
 ghost use Prim.Native.Nat.{_≤_};
-ghost use lib.ListN.{length, getD};
-ghost use Rattle.layout.specs.Layouts.{AllValid, blank};
-ghost use Rattle.expression.specs.Nodes.{known, takes, well-formed};
+ghost use lib.ListN.{length};
+ghost use Rattle.layout.specs.Layouts.{AllValid};
+ghost use Rattle.expression.specs.Nodes.{takes, well-formed};
 ghost use Rattle.expression.specs.Values.{node-value, evaluated};
-ghost use Rattle.names.specs.Variables.{environment, values as constants-of, reading};
-ghost use Rattle.names.specs.Outcomes.{value-at, outcome-of};
+ghost use Rattle.names.specs.Variables.{read-by};
+ghost use Rattle.names.specs.Outcomes.{value-by, outcome-of};
 use crate::asks::place_at;
 use crate::check::expression_fault;
 use crate::read::read_name;
@@ -39,7 +39,7 @@ fn value_of_node<C: Catalogue, H: Host>(
     requires valid { ⌜ AllValid (layouts (now c)) ⌝ }
     requires block { ⌜ length (now block) ≤ 4 ⌝ }
     requires taken { ⌜ length (now taken) ≡ takes node ⌝ }
-    ensures { λ r. ⌜ r ≡ node-value (answers (now (host .entry))) (reading (environment (layouts (now (c .entry))) (now (variables .entry))) (constants-of (layouts (now (c .entry))) (now (constants .entry)) (now (variables .entry))) (now (block .entry)) x) node (now (taken .entry)) ⌝ }
+    ensures { λ r. ⌜ r ≡ node-value (answers (now (host .entry))) (read-by (layouts (now (c .entry))) (now (variables .entry)) (now (constants .entry)) (now (block .entry)) x) node (now (taken .entry)) ⌝ }
 {
     match node {
         Node::Number(value) => Some(value),
@@ -71,7 +71,7 @@ fn run<C: Catalogue, H: Host>(
     requires valid { ⌜ AllValid (layouts (now c)) ⌝ }
     requires block { ⌜ length (now block) ≤ 4 ⌝ }
     requires formed { ⌜ well-formed (now nodes) ≡ true ⌝ }
-    ensures { λ r. ⌜ r ≡ evaluated (node-value (answers (now (host .entry))) (reading (environment (layouts (now (c .entry))) (now (variables .entry))) (constants-of (layouts (now (c .entry))) (now (constants .entry)) (now (variables .entry))) (now (block .entry)) x)) (now (nodes .entry)) ⌝ }
+    ensures { λ r. ⌜ r ≡ evaluated (node-value (answers (now (host .entry))) (read-by (layouts (now (c .entry))) (now (variables .entry)) (now (constants .entry)) (now (block .entry)) x)) (now (nodes .entry)) ⌝ }
 {
     let mut stack = [0.0; 32];
     let mut depth = 0;
@@ -113,7 +113,7 @@ pub(crate) fn evaluate_checked<C: Catalogue, H: Host>(
     requires valid { ⌜ AllValid (layouts (now c)) ⌝ }
     requires block { ⌜ length (now block) ≤ 4 ⌝ }
     requires formed { ⌜ well-formed (now nodes) ≡ true ⌝ }
-    ensures { λ r. ⌜ r ≡ value-at (answers (now (host .entry))) (environment (layouts (now (c .entry))) (now (variables .entry))) (constants-of (layouts (now (c .entry))) (now (constants .entry)) (now (variables .entry))) (now (block .entry)) (getD (layouts (now (c .entry))) source blank) (now (nodes .entry)) number ⌝ }
+    ensures { λ r. ⌜ r ≡ value-by (answers (now (host .entry))) (layouts (now (c .entry))) (now (variables .entry)) (now (constants .entry)) (now (block .entry)) source (now (nodes .entry)) number ⌝ }
 {
     let x = place_at(c, source, number);
     match run(c, host, variables, constants, block, x, nodes) {

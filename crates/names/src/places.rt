@@ -2,11 +2,10 @@
 ghost use mathlib.Core.Path.{_≡_};
 ghost use mathlib.Core.Bool.{true};
 ghost use Prim.Native.Nat.{_≤_};
-ghost use lib.ListN.{length, getD};
-ghost use Rattle.layout.specs.Layouts.{AllValid, blank};
+ghost use lib.ListN.{length};
+ghost use Rattle.layout.specs.Layouts.{AllValid};
 ghost use Rattle.expression.specs.Nodes.{well-formed};
-ghost use Rattle.names.specs.Variables.{environment, values as constants-of};
-ghost use Rattle.names.specs.Outcomes.{value-at, gathered, outcomes-of, Put-in-front};
+ghost use Rattle.names.specs.Outcomes.{value-by, gathered, outcomes-of, Put-in-front};
 use crate::asks::shape_at;
 use crate::check::expression_fault;
 use crate::evaluate::evaluate_checked;
@@ -38,7 +37,7 @@ fn write_values<C: Catalogue, H: Host>(
     requires block { ⌜ length (now block) ≤ 4 ⌝ }
     requires formed { ⌜ well-formed (now nodes) ≡ true ⌝ }
     requires room { ⌜ count ≤ length (now out) ⌝ }
-    ensures { λ r. ⌜ Put-in-front (gathered (value-at (answers (now (host .entry))) (environment (layouts (now (c .entry))) (now (variables .entry))) (constants-of (layouts (now (c .entry))) (now (constants .entry)) (now (variables .entry))) (now (block .entry)) (getD (layouts (now (c .entry))) source blank) (now (nodes .entry))) count) (now (out .entry)) (now (out .exit)) r ⌝ }
+    ensures { λ r. ⌜ Put-in-front (gathered (value-by (answers (now (host .entry))) (layouts (now (c .entry))) (now (variables .entry)) (now (constants .entry)) (now (block .entry)) source (now (nodes .entry))) count) (now (out .entry)) (now (out .exit)) r ⌝ }
 {
     for k in 0..count {
         let value = evaluate_checked(c, host, variables, constants, block, source, k, nodes)?;

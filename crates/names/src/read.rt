@@ -5,7 +5,7 @@ ghost use lib.ListN.{length, getD};
 ghost use Rattle.std.specs.Floats.{zero as zero-value};
 ghost use Rattle.layout.specs.Layouts.{AllValid};
 ghost use Rattle.names.specs.Reading.{picked, element as element-of};
-ghost use Rattle.names.specs.Variables.{layout-of, values-of, environment, values, reading};
+ghost use Rattle.names.specs.Variables.{layout-of, values-of, read-by};
 use crate::element::element;
 use crate::variable::VariableRecord;
 use crate::variable::record_of;
@@ -59,7 +59,7 @@ pub(crate) fn read_name<C: Catalogue>(
 ) -> f64
     requires valid { ⌜ AllValid (layouts (now c)) ⌝ }
     requires block { ⌜ length (now block) ≤ 4 ⌝ }
-    ensures { λ r. ⌜ r ≡ reading (environment (layouts (now (c .entry))) (now (variables .entry))) (values (layouts (now (c .entry))) (now (constants .entry)) (now (variables .entry))) (now (block .entry)) x variable letters ⌝ }
+    ensures { λ r. ⌜ r ≡ read-by (layouts (now (c .entry))) (now (variables .entry)) (now (constants .entry)) (now (block .entry)) x variable letters ⌝ }
 {
     match record_of(variables, variable) {
         Some(v) => read_record(c, constants, block, x, meant(&letters), v),
