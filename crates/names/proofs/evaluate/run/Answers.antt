@@ -5,7 +5,7 @@ use native.Mathlib.Omega.{arith}
 use lib.ListN.{length}
 use Rattle.std.proofs.shelf.Lists.{length-set}
 use Rattle.expression.specs.Values as values
-use Rattle.names.specs.Variables.{environment, values as values-by-records, reading}
+use Rattle.names.specs.Variables.{read-by}
 use Rattle.names.proofs.Running.{part-length, node-takes, node-leaves, sound-on, stopped, went-on, finished, begun}
 use Rattle.names.proofs.evaluate.run.Needs as need
 
@@ -27,7 +27,7 @@ pub returns-in-None : need.returns-in-None
 returns-in-None g c =
     let d = c .loop-i .depth in
     let t = c .values-taken .result in
-    let f = values.node-value (g .H·Host .answers (c .args .host .now)) (reading (environment (g .C·Catalogue .layouts (c .args .c .now)) (c .args .variables .now)) (values-by-records (g .C·Catalogue .layouts (c .args .c .now)) (c .args .constants .now) (c .args .variables .now)) (c .args .block .now) (c .args .x)) in
+    let f = values.node-value (g .H·Host .answers (c .args .host .now)) (read-by (g .C·Catalogue .layouts (c .args .c .now)) (c .args .variables .now) (c .args .constants .now) (c .args .block .now) (c .args .x)) in
     let k : t ≤ d = node-takes (c .args .nodes .now) d (c .loop-i .i) t _ (c .loop-i-test .taken) (c .loop-i .inv .2) (c .values-taken .ensures) in
     stopped f (c .args .nodes .now) (c .loop-i .i) t _ (c .loop-i-test .taken) (c .values-taken .ensures) (c .loop-i .stack) d (omega arith) k (values.evaluated f (c .args .nodes .now)) (c .in-None .ensures tt) (c .loop-i .inv .3)
 
@@ -42,7 +42,7 @@ pub loop-i-again : need.loop-i-again
 loop-i-again g c =
     let d = c .loop-i .depth in
     let t = c .values-taken .result in
-    let f = values.node-value (g .H·Host .answers (c .args .host .now)) (reading (environment (g .C·Catalogue .layouts (c .args .c .now)) (c .args .variables .now)) (values-by-records (g .C·Catalogue .layouts (c .args .c .now)) (c .args .constants .now) (c .args .variables .now)) (c .args .block .now) (c .args .x)) in
+    let f = values.node-value (g .H·Host .answers (c .args .host .now)) (read-by (g .C·Catalogue .layouts (c .args .c .now)) (c .args .variables .now) (c .args .constants .now) (c .args .block .now) (c .args .x)) in
     let k : t ≤ d = node-takes (c .args .nodes .now) d (c .loop-i .i) t _ (c .loop-i-test .taken) (c .loop-i .inv .2) (c .values-taken .ensures) in
     let m : d - t + 1 ≤ 32 = node-leaves (c .args .nodes .now) d (c .loop-i .i) t _ (c .loop-i-test .taken) (c .loop-i .inv .2) (c .values-taken .ensures) in (
       m,
@@ -53,5 +53,5 @@ loop-i-again g c =
 
 pub returns : need.returns
 returns g c =
-    let f = values.node-value (g .H·Host .answers (c .args .host .now)) (reading (environment (g .C·Catalogue .layouts (c .args .c .now)) (c .args .variables .now)) (values-by-records (g .C·Catalogue .layouts (c .args .c .now)) (c .args .constants .now) (c .args .variables .now)) (c .args .block .now) (c .args .x)) in
+    let f = values.node-value (g .H·Host .answers (c .args .host .now)) (read-by (g .C·Catalogue .layouts (c .args .c .now)) (c .args .variables .now) (c .args .constants .now) (c .args .block .now) (c .args .x)) in
     finished f (c .args .nodes .now) (c .loop-i .i) (c .loop-i .stack) (c .loop-i .depth) (values.evaluated f (c .args .nodes .now)) (c .loop-i-test .left) (c .loop-i .inv .2) (c .loop-i .inv .3)
