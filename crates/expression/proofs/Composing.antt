@@ -1,13 +1,13 @@
 -- An expression inside another acts as one value.
-use mathlib.Core.Path.{_≡_, refl, sym, ap, _∙_, subst}
+use mathlib.Core.Path.{_≡_, refl, sym, ap, _∙_}
 use mathlib.Core.List.{List, [], _∷_, _++_, append-assoc, append-nil}
-use mathlib.Core.Bool.{Bool, true, false, _&&_}
-use Prim.Native.Nat.{ℕ, zero, suc, _+_, _-_, _<_, _≤_}
+use mathlib.Core.Bool.{true}
+use Prim.Native.Nat.{ℕ, suc, _+_, _-_, _≤_}
 use native.Mathlib.Omega.{arith}
 use lib.Dec.{eqb}
 use lib.ListN.{length, getD, take, drop}
 use lib.Ieee.{Float, nan}
-use Rattle.std.proofs.shelf.Lists.{length-append, length-drop, length-take, drop-append-le, drop-at, take-at, take-append-drop, drop-drop}
+use Rattle.std.proofs.shelf.Lists.{length-append, length-take, drop-at, take-at, take-append-drop, drop-drop}
 use Rattle.std.proofs.shelf.Tests.{and-parts, eqb-true}
 use Rattle.std.specs.declared.option.Option.{Option}
 use Rattle.std.specs.declared.option.Option.the-variants.{Some, None}
@@ -17,7 +17,7 @@ use Rattle.expression.specs.declared.node.Letters.{Letters}
 use Rattle.expression.specs.declared.node.Node.{Node}
 use Rattle.expression.specs.declared.node.Node.the-variants.{Number, Name, Binary, Unary, Call}
 use Rattle.expression.specs.Nodes.{takes, may-follow, sound-from}
-use Rattle.expression.specs.Values.{node-value, found-at, run, evaluated}
+use Rattle.expression.specs.Values.{node-value, found-at, run}
 use Rattle.expression.specs.Laws.{all-nodes, Valued, Composes, Reads-decide}
 use Rattle.expression.proofs.Forming.{follows}
 

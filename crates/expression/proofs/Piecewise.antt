@@ -1,15 +1,15 @@
 -- One condition of a piecewise passed, and the last argument.
 use mathlib.Core.Path.{_≡_, refl, sym, ap, _∙_}
 use mathlib.Core.List.{List, [], _∷_}
-use mathlib.Core.Bool.{Bool, true, false, cond}
+use mathlib.Core.Bool.{true, false, cond}
 use Prim.Native.Nat.{ℕ, zero, suc, _+_, _-_, _*_, _/_, _<_, _≤_}
 use native.Mathlib.Omega.{arith}
-use native.Mathlib.Nat.{not-suc-le-zero, le-of-suc-le-suc}
+use native.Mathlib.Nat.{le-of-suc-le-suc}
 use lib.ListN.{length, getD, drop}
 use lib.Ieee.{Float, nan, le, ofBits, binary64}
 use Rattle.std.specs.Floats as Floats
 use Rattle.expression.specs.Values.{piecewise}
-use mathlib.Core.Logic.{_⊎_, inl, inr}
+use mathlib.Core.Logic.{inl, inr}
 use Rattle.std.proofs.shelf.Tests.{cases-bool}
 use Rattle.expression.specs.Laws.{Accepts, First-condition-gives}
 use Rattle.expression.proofs.Literals.{zero-is}

@@ -1,5 +1,4 @@
 -- What a refused caller reads: each fault with its number, its layer and its place, which is the node.
-use Prim.Native.Nat.{ℕ}
 use Rattle.layout.specs.declared.fault.Layer.the-variants.{Expression}
 use Rattle.layout.specs.declared.fault.Report.{Report}
 use Rattle.expression.specs.declared.fault.ExpressionFault.{ExpressionFault}

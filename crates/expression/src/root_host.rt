@@ -1,5 +1,4 @@
 //! A host that has the square root and nothing else.
-ghost use mathlib.Core.Path.{_≡_};
 ghost use Rattle.expression.specs.Hosts.{root-answer};
 use crate::host::Host;
 

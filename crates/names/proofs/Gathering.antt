@@ -1,7 +1,7 @@
 -- The values gathered, one more at a time.
 use mathlib.Core.Path.{_≡_, refl, sym, ap, _∙_}
-use mathlib.Core.List.{List, [], _∷_, _++_}
-use mathlib.Core.Logic.{_⊎_, inl, inr}
+use mathlib.Core.List.{List, _++_}
+use mathlib.Core.Logic.{inl, inr}
 use Prim.Native.Nat.{ℕ, zero, suc, _+_, _<_, _≤_}
 use native.Mathlib.Numerals.{add-one}
 use native.Mathlib.Omega.{arith}
@@ -19,9 +19,6 @@ module _ {E : Type 0} (g : ℕ → Result Float E) (before : List Float) where
     pub given : gathered g k ≡ Ok (take k out)
     pub rest : drop k out ≡ drop k before
     pub long : length out ≡ length before
-
-  pub front-none : Front 0 before
-  front-none = record { given = refl; rest = refl; long = refl }
 
   pub front-more : (out : List Float) (k : ℕ) (x : Float) → k < length before → Ok x ≡ g k → Front k out → Front (k + 1) (set out k x)
   front-more out k x h e f =

@@ -1,29 +1,28 @@
 -- Where no table exists, the place's own number counts.
-use mathlib.Core.Path.{_≡_, refl, sym, ap, _∙_, subst}
-use mathlib.Core.List.{List, [], _∷_, _++_, map}
+use mathlib.Core.Path.{_≡_, refl, sym, ap, _∙_}
+use mathlib.Core.List.{List, [], _∷_, map}
 use mathlib.Core.Bool.{Bool, true, false, cond, not, _&&_}
-use mathlib.Core.Logic.{_⊎_, inl, inr, _≢_}
+use mathlib.Core.Logic.{inl, inr}
 use Prim.Native.Nat.{ℕ, zero, suc, _+_, _<_, _≤_}
 use native.Mathlib.Omega.{arith}
 use native.Mathlib.Nat.{le-of-suc-le-suc}
 use lib.Dec.{eqb, ltb}
 use lib.IntN.{ℤ, pos}
 use lib.ListN.{length, getD, set}
-use Rattle.std.proofs.shelf.Lists.{getD-set-same, getD-set-other, getD-map, getD-append-left, getD-append-add, length-map, length-append, getD-past, getD-default, length-set}
+use Rattle.std.proofs.shelf.Lists.{getD-set-same, getD-set-other, getD-map, getD-append-left, getD-append-add, length-map, length-append, getD-past, length-set}
 use Rattle.std.proofs.shelf.Elements.{all-getD}
-use Rattle.std.proofs.shelf.Tests.{and-parts, eqb-true, eq-eqb, ne-eqb, lt-ltb, le-ltb, ltb-true, ltb-false, cases-bool, cases-lt, cases-eq, not-true, true≢false, both-ways}
-use Rattle.std.specs.declared.option.Option.{Option}
-use Rattle.std.specs.declared.option.Option.the-variants.{Some, None}
+use Rattle.std.proofs.shelf.Tests.{and-parts, eqb-true, eq-eqb, ne-eqb, lt-ltb, le-ltb, ltb-true, cases-bool, cases-lt, cases-eq, not-true, both-ways}
+use Rattle.std.specs.declared.option.Option.the-variants.{Some}
 use Rattle.layout.specs.declared.kind.LayoutKind.{LayoutKind}
 use Rattle.layout.specs.declared.kind.LayoutKind.the-variants.{Dense, Diagonal, Sparse}
 use Rattle.layout.specs.Places.{Place, place, origin, Inside, axis}
-use Rattle.layout.specs.Layouts.{Layout, Valid, count, rank, at, natural, given, four, named, widened, widen, wide-index, strict, wide}
+use Rattle.layout.specs.Layouts.{Layout, Valid, count, rank, at, natural, given, named, widened, widen, wide-index, strict, wide}
 use Rattle.layout.specs.Answers.{index-of}
 use Rattle.layout.proofs.Finding.{strict-found}
 use Rattle.expression.specs.Letterings.{position, among, distinct}
 use Rattle.names.specs.Reading.{slot, foreign, permutation, scattered, permuted, table-element, element, element-by}
 use Rattle.names.specs.Checks.{fitting, fitting-by, fitting-slots}
-use Rattle.names.specs.Tables.{identity-from, No-table, Own-number-counts}
+use Rattle.names.specs.Tables.{identity-from, Own-number-counts}
 
 -- ---- every position of a name is a slot
 

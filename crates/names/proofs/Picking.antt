@@ -14,7 +14,7 @@ use Rattle.std.proofs.shelf.Lists.{getD-take, getD-drop, getD-past, getD-defaul
 use Rattle.std.proofs.shelf.Tests.{cases-lt, le-ltb, lt-ltb}
 use Rattle.std.specs.declared.option.Option.{Option}
 use Rattle.std.specs.declared.option.Option.the-variants.{Some, None}
-use mathlib.Core.Logic.{_⊎_, inl, inr}
+use mathlib.Core.Logic.{inl, inr}
 use Rattle.layout.specs.declared.kind.LayoutKind.{LayoutKind}
 use Rattle.layout.specs.declared.kind.LayoutKind.the-variants.{Dense, Diagonal, Sparse}
 use Rattle.layout.specs.Places.{Place, same}

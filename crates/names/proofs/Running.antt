@@ -1,8 +1,8 @@
 -- One step of an expression's run on a stack that is the front of an array.
-use mathlib.Core.Path.{_≡_, refl, sym, ap, _∙_}
+use mathlib.Core.Path.{_≡_, sym, ap, _∙_}
 use mathlib.Core.List.{List, [], _∷_, _++_}
-use mathlib.Core.Bool.{Bool, true, false, _&&_}
-use Prim.Native.Nat.{ℕ, suc, _+_, _-_, _<_, _≤_}
+use mathlib.Core.Bool.{true}
+use Prim.Native.Nat.{ℕ, _+_, _-_, _<_, _≤_}
 use native.Mathlib.Omega.{arith}
 use lib.Dec.{eqb}
 use lib.ListN.{length, getD, set, take, drop}
@@ -14,8 +14,8 @@ use Rattle.std.specs.declared.option.Option.the-variants.{Some, None}
 use Rattle.std.specs.declared.result.Result.{Result}
 use Rattle.std.specs.declared.result.Result.the-variants.{Ok, Err}
 use Rattle.expression.specs.declared.node.Node.{Node}
-use Rattle.expression.specs.Nodes.{known, takes, may-follow, sound-from, well-formed}
-use Rattle.expression.specs.Values.{found-at, run, evaluated}
+use Rattle.expression.specs.Nodes.{takes, may-follow, sound-from}
+use Rattle.expression.specs.Values.{found-at, run}
 use Rattle.expression.proofs.Forming.{sound-step, follows}
 
 -- the values that are taken, as a part of the array
@@ -43,9 +43,6 @@ part-length a d t h g = let e = length-take-le d a h in ap length (sym (part-tak
 module _ (ns : List Node) (d i t : ℕ) (e : Node) (h : i < length ns) (s : sound-from d (drop i ns) ≡ true) (w : t ≡ takes (getD ns i e)) where
   node-follows : may-follow d (getD ns i e) ≡ true
   node-follows = and-parts _ _ (sym (sound-step ns d i e h) ∙ s) .0
-
-  pub node-known : known (getD ns i e) ≡ true
-  node-known = follows d (getD ns i e) node-follows .0
 
   pub node-takes : t ≤ d
   node-takes = omega (arith, follows d (getD ns i e) node-follows .1)
@@ -77,6 +74,3 @@ pub finished : (f : Node → List Float → Option Float) (ns : List Node) (i : 
 finished f ns i a d q h s inv =
     let o : d ≡ 1 = eqb-true d 1 (sym (at-drop-all (sound-from d) ns i h) ∙ s) in
     ap (λ x. Ok x) (sym (getD-take d a 0 nan (omega arith))) ∙ sym (at-drop-all (λ l. run f i l (take d a)) ns i h) ∙ inv
-
-pub begun : (ns : List Node) → well-formed ns ≡ true → sound-from 0 ns ≡ true
-begun ns h = and-parts _ _ h .1

@@ -1,8 +1,8 @@
 -- The entries of a binary table, and whether there is one.
-use mathlib.Core.Path.{_≡_, refl, sym, ap, _∙_, subst}
-use mathlib.Core.List.{List, [], _∷_, _++_, map}
-use mathlib.Core.Bool.{Bool, true, false, cond, _&&_}
-use mathlib.Core.Logic.{_⊎_, inl, inr}
+use mathlib.Core.Path.{_≡_, sym, ap, _∙_, subst}
+use mathlib.Core.List.{List, _++_, map}
+use mathlib.Core.Bool.{true, false, cond, _&&_}
+use mathlib.Core.Logic.{inl, inr}
 use Prim.Native.Nat.{ℕ, _+_, _<_, _≤_}
 use native.Mathlib.Omega.{arith}
 use lib.Dec.{eqb, ltb, leb}
@@ -20,9 +20,9 @@ use Rattle.std.specs.declared.result.Result.the-variants.{Ok, Err}
 use Rattle.layout.specs.declared.fault.LayoutFault.the-variants.{Unknown}
 use Rattle.layout.specs.declared.shape.Shape.{Shape}
 use Rattle.layout.specs.Places.{Place, origin}
-use Rattle.layout.specs.Layouts.{Layout, Valid, AllValid, blank, count, rank, at, wide, wide-index}
+use Rattle.layout.specs.Layouts.{Layout, Valid, AllValid, blank, count, at, wide, wide-index}
 use Rattle.layout.specs.Answers.{asked, shape-of, shape-asked, index-of}
-use Rattle.names.specs.Reading.{table-element, permuted}
+use Rattle.names.specs.Reading.{table-element}
 use Rattle.names.specs.Tables.{identity-from, entry-of, binary-table, table-asked, Put-from}
 use Rattle.names.proofs.Picking.{Below, below-strict}
 

@@ -1,5 +1,4 @@
 -- What a refused caller reads: no room is refusal 23 of the stage.
-use Prim.Native.Nat.{ℕ}
 use Rattle.layout.specs.Faults as layout-faults
 use Rattle.layout.specs.declared.fault.Layer.the-variants.{Stage}
 use Rattle.layout.specs.declared.fault.Report.{Report}

@@ -1,9 +1,9 @@
 -- Which element of its layout a name reads at a place of the source.
 use mathlib.Core.List.{List, [], _∷_, _++_, map}
-use mathlib.Core.Bool.{Bool, true, false, cond, _&&_}
+use mathlib.Core.Bool.{cond}
 use Prim.Native.Nat.{ℕ, _+_}
 use lib.Dec.{eqb, ltb}
-use lib.IntN.{ℤ, pos, negsuc}
+use lib.IntN.{ℤ, pos}
 use lib.ListN.{length, getD, set, take}
 use lib.Ieee.{Float}
 use Rattle.std.specs.Floats.{zero}
@@ -13,7 +13,6 @@ use Rattle.layout.specs.declared.kind.LayoutKind.{LayoutKind}
 use Rattle.layout.specs.declared.kind.LayoutKind.the-variants.{Dense, Diagonal, Sparse}
 use Rattle.layout.specs.Places.{axis}
 use Rattle.layout.specs.Layouts.{Layout, rank, strict, wide}
-use Rattle.layout.specs.Answers.{index-of}
 use Rattle.expression.specs.Letterings.{position, among}
 use Rattle.names.specs.declared.permutation.Permutation.{Permutation}
 

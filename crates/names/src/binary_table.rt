@@ -1,9 +1,8 @@
 //! Binary tables: for each source place, the number that it has in a name's layout.
 ghost use mathlib.Core.Path.{_≡_};
-ghost use mathlib.Core.List.{_++_};
 ghost use Prim.Native.Nat.{_+_, _<_, _≤_};
 ghost use lib.Dec.{leb};
-ghost use lib.ListN.{length, getD, take, drop};
+ghost use lib.ListN.{length, getD};
 ghost use Rattle.std.specs.Slices.{found};
 ghost use Rattle.std.specs.shelf.Lists.{paste};
 ghost use Rattle.layout.specs.Layouts.{AllValid, blank, at as place-of, count as count-of, rank as rank-of};

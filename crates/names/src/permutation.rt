@@ -3,7 +3,7 @@ ghost use mathlib.Core.Path.{_≡_};
 ghost use mathlib.Core.Bool.{cond};
 ghost use mathlib.Core.List.{_++_, _∷_, [], map};
 ghost use Prim.Native.Nat.{_+_, _<_, _≤_};
-ghost use lib.ListN.{length, take};
+ghost use lib.ListN.{length};
 ghost use Rattle.expression.specs.Letterings.{letters-of, among};
 ghost use Rattle.names.specs.Reading.{slots-of, slot as slot-of, permutation as permutation-of};
 use expression::letters::is_among;

@@ -1,4 +1,4 @@
-use mathlib.Core.Path.{refl, _∙_, ap}
+use mathlib.Core.Path.{refl, _∙_}
 use Rattle.names.specs.Reading as reading
 use Rattle.names.specs.Variables.{layout-of}
 use Rattle.names.proofs.Indexing.{element-is}

@@ -1,12 +1,11 @@
-use mathlib.Core.Path.{_≡_, _∙_}
-use Prim.Native.Nat.{_+_, _-_, _<_, _≤_}
-use borrow.Author.Needs.{needs}
+use mathlib.Core.Path.{_∙_}
+use Prim.Native.Nat.{_+_, _-_, _≤_}
 use native.Mathlib.Omega.{arith}
 use lib.ListN.{length}
 use Rattle.std.proofs.shelf.Lists.{length-set}
 use Rattle.expression.specs.Values as values
 use Rattle.names.specs.Variables.{read-by}
-use Rattle.names.proofs.Running.{part-length, node-takes, node-leaves, sound-on, stopped, went-on, finished, begun}
+use Rattle.names.proofs.Running.{part-length, node-takes, node-leaves, sound-on, stopped, went-on, finished}
 use Rattle.names.proofs.evaluate.run.Needs as need
 
 pub sub-low : need.sub-low

@@ -1,6 +1,3 @@
-use mathlib.Core.Path.{_≡_, ap, _∙_, sym}
-use mathlib.Core.List.{_++_, _∷_, []}
-use borrow.Author.Needs.{needs}
 use native.Mathlib.Omega.{arith}
 use Rattle.names.specs.Reading as reading
 use Rattle.names.proofs.Slotting.{foreign-more, foreign-all}
