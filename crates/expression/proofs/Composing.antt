@@ -9,6 +9,7 @@ use lib.ListN.{length, getD, take, drop}
 use lib.Ieee.{Float, nan}
 use Rattle.std.proofs.shelf.Lists.{length-append, length-take, drop-at, take-at, take-append-drop, drop-drop}
 use Rattle.std.proofs.shelf.Tests.{and-parts, eqb-true}
+use Rattle.std.specs.shelf.Lists.{All}
 use Rattle.std.specs.declared.option.Option.{Option}
 use Rattle.std.specs.declared.option.Option.the-variants.{Some, None}
 use Rattle.std.specs.declared.result.Result.{Result}
@@ -18,7 +19,7 @@ use Rattle.expression.specs.declared.node.Node.{Node}
 use Rattle.expression.specs.declared.node.Node.the-variants.{Number, Name, Binary, Unary, Call}
 use Rattle.expression.specs.Nodes.{takes, may-follow, sound-from}
 use Rattle.expression.specs.Values.{node-value, found-at, run}
-use Rattle.expression.specs.Laws.{all-nodes, Valued, Composes, Reads-decide}
+use Rattle.expression.specs.Laws.{all-nodes, Valued, Composes, Agrees, Reads-decide}
 use Rattle.expression.proofs.Forming.{follows}
 
 -- ---- what lies below does not matter
@@ -100,18 +101,19 @@ found-ext : (i : ℕ) (o : Option Float) (k j : Float → Result Float ℕ) → 
 found-ext i None k j h = refl
 found-ext i (Some x) k j h = h x
 
-run-same : (f g : Node → List Float → Option Float) → ((n : Node) (xs : List Float) → f n xs ≡ g n xs) → (i : ℕ) (ns : List Node) (s : List Float) → run f i ns s ≡ run g i ns s
-run-same f g h i [] s = refl
-run-same f g h i (n ∷ ns) s =
-    ap (λ o. found-at i o (λ x. run f (i + 1) ns (take (length s - takes n) s ++ x ∷ []))) (h n (drop (length s - takes n) s))
-    ∙ found-ext i (g n (drop (length s - takes n) s)) _ _ (λ x. run-same f g h (i + 1) ns (take (length s - takes n) s ++ x ∷ []))
+module _ (host : ℕ → List Float → Option Float) (read read′ : ℕ → Letters → Float) where
+  node-same : (n : Node) (xs : List Float) → Agrees read read′ n → node-value host read n xs ≡ node-value host read′ n xs
+  node-same (Number x) xs h = refl
+  node-same (Name v l) xs h = ap (λ y. Some y) h
+  node-same (Binary o) xs h = refl
+  node-same (Unary o) xs h = refl
+  node-same (Call c n) xs h = refl
 
-node-same : (host : ℕ → List Float → Option Float) (read read′ : ℕ → Letters → Float) → ((v : ℕ) (l : Letters) → read v l ≡ read′ v l) → (n : Node) (xs : List Float) → node-value host read n xs ≡ node-value host read′ n xs
-node-same host read read′ h (Number x) xs = refl
-node-same host read read′ h (Name v l) xs = ap (λ y. Some y) (h v l)
-node-same host read read′ h (Binary o) xs = refl
-node-same host read read′ h (Unary o) xs = refl
-node-same host read read′ h (Call c n) xs = refl
+  run-same : (i : ℕ) (ns : List Node) (s : List Float) → All (Agrees read read′) ns → run (node-value host read) i ns s ≡ run (node-value host read′) i ns s
+  run-same i [] s h = refl
+  run-same i (n ∷ ns) s h =
+      ap (λ o. found-at i o (λ x. run (node-value host read) (i + 1) ns (take (length s - takes n) s ++ x ∷ []))) (node-same n (drop (length s - takes n) s) (h .0))
+      ∙ found-ext i (node-value host read′ n (drop (length s - takes n) s)) _ _ (λ x. run-same (i + 1) ns (take (length s - takes n) s ++ x ∷ []) (h .1))
 
 pub reads-decide : Reads-decide
-reads-decide host read read′ ns h = run-same (node-value host read) (node-value host read′) (node-same host read read′ h) 0 ns []
+reads-decide host read read′ ns h = run-same host read read′ 0 ns [] h

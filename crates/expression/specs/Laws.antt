@@ -5,11 +5,13 @@ use mathlib.Core.List.{List, [], _∷_, _++_}
 use Prim.Native.Nat.{ℕ, _+_, _-_, _*_, _/_, _<_, _≤_}
 use lib.Ieee.{Float, nan, le}
 use Rattle.std.specs.Floats.{zero}
+use Rattle.std.specs.shelf.Lists.{All}
 use Rattle.std.specs.declared.option.Option.{Option}
 use Rattle.std.specs.declared.option.Option.the-variants.{Some}
 use Rattle.std.specs.declared.result.Result.the-variants.{Ok}
 use Rattle.expression.specs.declared.node.Letters.{Letters}
 use Rattle.expression.specs.declared.node.Node.{Node}
+use Rattle.expression.specs.declared.node.Node.the-variants.{Number, Name, Binary, Unary, Call}
 use Rattle.expression.specs.Nodes.{takes, sound-from}
 use Rattle.expression.specs.Values.{node-value, evaluated, piecewise}
 use lib.ListN.{length, getD}
@@ -33,11 +35,19 @@ Composes =
     → Valued f es vs → takes n ≡ length vs → f n vs ≡ Some x
     → evaluated f (all-nodes es ++ n ∷ []) ≡ Ok x
 
--- What is read decides: with the same host answers and the same readings of variables, an expression has the same outcome.
+-- two readings agree on a node, if it is a name
+abbrev pub Agrees : (ℕ → Letters → Float) → (ℕ → Letters → Float) → Node → Type 0
+Agrees read read′ (Number x) = Unit {0}
+Agrees read read′ (Name v l) = read v l ≡ read′ v l
+Agrees read read′ (Binary o) = Unit {0}
+Agrees read read′ (Unary o) = Unit {0}
+Agrees read read′ (Call c n) = Unit {0}
+
+-- Only what is read decides: under readings that agree on its names, an expression has the same outcome.
 abbrev pub Reads-decide : Type 0
 Reads-decide =
     (host : ℕ → List Float → Option Float) (read read′ : ℕ → Letters → Float) (ns : List Node)
-    → ((v : ℕ) (l : Letters) → read v l ≡ read′ v l)
+    → All (Agrees read read′) ns
     → evaluated (node-value host read) ns ≡ evaluated (node-value host read′) ns
 
 -- condition i of a piecewise holds
