@@ -100,9 +100,9 @@ described-by true o r e = absurd (none-not r (sym e))
 described-by false o r e = e
 
 module _ (ls : List Layout) (cs : List Float) (rs : List VariableRecord) (block : List ℕ) (x : List ℤ) (v : ℕ) (l : Letters) (y : Float) where
-  pub reads-record : (r : VariableRecord) → Some r ≡ recorded rs v → y ≡ picked (values-of ls cs r) (element (layout-of ls (r .layout)) block x (letters-of l)) → y ≡ reading (environment ls rs) (values ls cs rs) block x v l
-  reads-record r e f =
-      f ∙ ap (λ o. read-of (values-of ls cs r) block x (letters-of l) (mapped (variable-of ls) o)) (described-by (ltb v 2) _ r e)
+  pub reads-record : (r : VariableRecord) (name : List ℕ) → name ≡ letters-of l → Some r ≡ recorded rs v → y ≡ picked (values-of ls cs r) (element (layout-of ls (r .layout)) block x name) → y ≡ reading (environment ls rs) (values ls cs rs) block x v l
+  reads-record r name n e f =
+      f ∙ ap (λ m. picked (values-of ls cs r) (element (layout-of ls (r .layout)) block x m)) n ∙ ap (λ o. read-of (values-of ls cs r) block x (letters-of l) (mapped (variable-of ls) o)) (described-by (ltb v 2) _ r e)
       ∙ ap (λ o. read-of (values-by ls cs o) block x (letters-of l) (environment ls rs v)) e
 
   pub reads-nothing : None ≡ recorded rs v → y ≡ Floats.zero → y ≡ reading (environment ls rs) (values ls cs rs) block x v l

@@ -59,11 +59,11 @@ small-element ls n x v =
 
 -- ---- one more entry
 
-pub table-written : (l s : Layout) (slots : List ℕ) (before table new : List ℤ) (from k : ℕ) → table ≡ paste before from (binary-table l s slots) k → k < count s → from + count s ≤ length before → new ≡ set table (from + k) (entry-of (table-element l slots (index-of (at s k)))) → new ≡ paste before from (binary-table l s slots) (k + 1)
-table-written l s slots before table new from k e h room is =
+pub table-written : (l s : Layout) (slots : List ℕ) (before table new : List ℤ) (from k : ℕ) (v : ℤ) → table ≡ paste before from (binary-table l s slots) k → k < count s → from + count s ≤ length before → v ≡ entry-of (table-element l slots (index-of (at s k))) → new ≡ set table (from + k) v → new ≡ paste before from (binary-table l s slots) (k + 1)
+table-written l s slots before table new from k v e h room is set-is =
     let f = λ (p : Place). entry-of (table-element l slots (index-of p)) in
     let n = length-map (s .places) f in
-    let v : getD (binary-table l s slots) k (pos 0) ≡ f (at s k) = getD-map f (s .places) k origin (pos 0) h in
+    let w : getD (binary-table l s slots) k (pos 0) ≡ f (at s k) = getD-map f (s .places) k origin (pos 0) h in
     let m = paste-more before from (binary-table l s slots) k (pos 0) (omega arith) (omega arith) in
     cc
 

@@ -22,6 +22,7 @@ use layout::find::eq_nonzeros;
 /// The entry of a place that has no number in the name's layout.
 const ABSENT: i32 = -1;
 
+/// A number as an entry.
 fn table_entry(number: Option<usize>) -> i32
     requires { ⌜ found number (λ n. n < 65536) ⌝ }
     ensures { λ r. ⌜ r ≡ entry-of number ⌝ }
@@ -49,6 +50,7 @@ fn entry_at<C: Catalogue>(
     table_entry(wide_at(c, layout, permuted(rank, slots, x)))
 }
 
+/// Writes the entry of each source place from a position on.
 fn write_table<C: Catalogue>(
     c: &C,
     layout: usize,
@@ -89,7 +91,7 @@ pub fn to_binary_data_layout<C: Catalogue>(
 ) -> Result<usize, NamesFault>
     ensures { λ r. ⌜ Put-from at (table-asked (layouts (now (c .entry))) layout source (slots-of (now (permutation .entry))) at (length (now (table .entry)))) (now (table .entry)) (now (table .exit)) r ⌝ }
 {
-    // What is counted is valid.
+    // The count says that every layout is valid.
     let _ = c.count();
     let shape = c.shape(layout)?;
     let count = c.shape(source)?.count;
@@ -109,6 +111,7 @@ pub fn to_binary_data_layout<C: Catalogue>(
     Ok(at + count)
 }
 
+/// Whether each entry stays where it is.
 fn is_identity(slots: &[usize]) -> bool
     ensures { λ r. ⌜ r ≡ identity-from 0 (now (slots .entry)) ⌝ }
 {

@@ -39,6 +39,7 @@ fn are_supplied(source_rank: usize, rank: usize, slots: &[usize]) -> bool
     true
 }
 
+/// Whether a permutation is short enough, and each slot that is used has an entry.
 fn slots_fit(source_rank: usize, rank: usize, slots: &[usize]) -> bool
     requires { ⌜ «source_rank» ≤ 4 ⌝ }
     ensures { λ r. ⌜ r ≡ fitting-slots «source_rank» rank (now (slots .entry)) ⌝ }
@@ -57,6 +58,7 @@ fn others_fit(source_rank: usize, rank: usize, block: &[u8], name: &[u8]) -> boo
     (name.len() == rank) & are_distinct(name) & slots_fit(source_rank, rank, p.meant())
 }
 
+/// Whether the letters of a name may stand.
 fn letters_fit<C: Catalogue>(
     c: &C,
     layout: Option<usize>,
@@ -138,6 +140,7 @@ fn check_name<C: Catalogue>(
     }
 }
 
+/// Whether a node may stand, which each does but a name.
 fn check_node<C: Catalogue>(
     c: &C,
     variables: &[VariableRecord],
@@ -220,7 +223,7 @@ pub fn expression_fault<C: Catalogue>(
     if !is_well_formed(nodes) {
         return Err(ExpressionFault::Malformed);
     }
-    // What is counted is valid.
+    // The count says that every layout is valid.
     let _ = c.count();
     let shape = shape_at(c, source);
     check_names(

@@ -30,6 +30,7 @@ fn letter_or_zero(letters: &[u8], i: usize) -> u8
     if i < letters.len() { letters[i] } else { 0 }
 }
 
+/// The entry on axis `i` that a dense name is read at.
 fn dense_entry_at(block: &[u8], x: Index, lengths: [usize; 4], name: &[u8], i: usize) -> i64
     requires { ⌜ i < 4 ⌝ }
     ensures { λ r. ⌜ r ≡ dense-entry (now (block .entry)) x lengths (now (name .entry)) i ⌝ }
@@ -41,6 +42,7 @@ fn dense_entry_at(block: &[u8], x: Index, lengths: [usize; 4], name: &[u8], i: u
     entry_or_zero(x, position_of(letter, block))
 }
 
+/// The index that a dense name is read at.
 fn dense_index_at(block: &[u8], x: Index, lengths: [usize; 4], name: &[u8]) -> Index
     ensures { λ r. ⌜ r ≡ dense-index (now (block .entry)) x lengths (now (name .entry)) ⌝ }
 {
@@ -52,6 +54,7 @@ fn dense_index_at(block: &[u8], x: Index, lengths: [usize; 4], name: &[u8]) -> I
     ]
 }
 
+/// With an entry at its slot, if that is below the rank.
 fn put_entry(y: Index, rank: usize, slot: usize, entry: i64) -> Index
     ensures { λ r. ⌜ r ≡ cond (ltb slot rank) (set y slot entry) y ⌝ }
 {
@@ -74,6 +77,7 @@ pub(crate) fn permuted(rank: usize, slots: &[usize], x: Index) -> Index
     y
 }
 
+/// The element that a dense name reads.
 fn dense_element_of<C: Catalogue>(
     c: &C,
     layout: Option<usize>,
@@ -91,6 +95,7 @@ fn dense_element_of<C: Catalogue>(
     strict_of(c, layout, dense_index_at(block, x, lengths, name))
 }
 
+/// The element that another name reads.
 fn table_element_of<C: Catalogue>(
     c: &C,
     layout: Option<usize>,

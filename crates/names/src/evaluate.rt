@@ -137,7 +137,7 @@ pub fn evaluate_at<C: Catalogue, H: Host>(
 ) -> Result<f64, ExpressionFault>
     ensures { λ r. ⌜ r ≡ outcome-of (answers (now (host .entry))) (layouts (now (c .entry))) (now (variables .entry)) opened (now (constants .entry)) letters source (now (nodes .entry)) number ⌝ }
 {
-    // What is counted is valid.
+    // The count says that every layout is valid.
     let _ = c.count();
     expression_fault(c, variables, opened, true, letters, source, nodes)?;
     evaluate_checked(

@@ -9,7 +9,7 @@ use layout::fault::LayoutFault;
 use layout::fault::LayoutFaultPartialEq;
 use layout::fault::Report;
 
-/// Why something is not written.
+/// A refusal of values or of a table.
 #[derive(Clone, Copy, PartialEq, Eq)]
 pub enum NamesFault {
     /// A layout is refused.

@@ -35,6 +35,7 @@ impl Permutation {
     }
 }
 
+/// The position of a block's letter in the name, or the rank.
 fn slot(rank: usize, name: &[u8], letter: u8) -> usize
     ensures { λ r. ⌜ r ≡ slot-of rank (now (name .entry)) letter ⌝ }
 {
@@ -45,6 +46,7 @@ fn slot(rank: usize, name: &[u8], letter: u8) -> usize
     }
 }
 
+/// With one more slot.
 fn pushed(p: Permutation, slot: usize) -> Permutation
     requires { ⌜ p .count < 8 ⌝ }
     ensures slots { λ r. ⌜ slots-of r ≡ slots-of p ++ slot ∷ [] ⌝ }

@@ -62,7 +62,7 @@ pub fn evaluate_places<C: Catalogue, H: Host>(
 ) -> Result<(), NamesFault>
     ensures { λ r. ⌜ Put-in-front (outcomes-of (answers (now (host .entry))) (layouts (now (c .entry))) (now (variables .entry)) opened (now (constants .entry)) letters source (now (nodes .entry)) (length (now (out .entry)))) (now (out .entry)) (now (out .exit)) r ⌝ }
 {
-    // What is counted is valid.
+    // The count says that every layout is valid.
     let _ = c.count();
     expression_fault(c, variables, opened, true, letters, source, nodes)?;
     let shape = shape_at(c, source);

@@ -28,6 +28,7 @@ fn constant_at(constants: &[f64], offset: usize, n: usize) -> f64
     constants[offset + n]
 }
 
+/// What a variable with a record is under letters.
 fn read_record<C: Catalogue>(
     c: &C,
     constants: &[f64],
