@@ -1,28 +1,45 @@
 //! What is wrong with a design, and what was expected in its place.
-use crate::names::kind_name;
 use layout::fault::Rule;
 use layout::kind::LayoutKind;
 use std::alloc::AllocError;
 use std::alloc::Refused;
 use std::fmt;
 
+/// Why a word does not fit where it stands.
+#[derive(Clone, Copy)]
+pub enum Odd {
+    /// It means nothing here.
+    Unknown,
+    /// It begins lines that are not read yet.
+    Unread,
+    /// It is no decimal number.
+    NoNumber,
+    /// It is a number that is too large or too small for its use.
+    OutOfRange,
+    /// It is a `:` or `,` that does not belong here.
+    OutOfPlace,
+    /// It stands after the last word of its line.
+    Extra,
+}
+
+fn odd_phrase(odd: Odd) -> &'static str {
+    match odd {
+        Odd::Unknown => "is unknown",
+        Odd::Unread => "lines are not read yet",
+        Odd::NoNumber => "is no number here",
+        Odd::OutOfRange => "is out of range",
+        Odd::OutOfPlace => "is out of place",
+        Odd::Extra => "is a word too many",
+    }
+}
+
 /// What a line has, or lacks, where something else was expected.
 #[derive(Clone, Copy)]
 pub enum What<'a> {
     /// The line ends.
     End,
-    /// A word that means nothing here.
-    Unknown(&'a str),
-    /// The first word of a line that is not read yet.
-    Unread(&'a str),
-    /// A word that is no decimal number.
-    NoNumber(&'a str),
-    /// A number that is too large or too small for its use.
-    OutOfRange(&'a str),
-    /// A `:` or `,` that does not belong here.
-    OutOfPlace(&'a str),
-    /// A word after the last one of its line.
-    Extra(&'a str),
+    /// A word that does not fit.
+    Word(&'a str, Odd),
     /// A place with so many entries, fewer than the shape has axes.
     ShortPlace { place: usize, entries: usize },
     /// A place with an entry for each axis, and then this word.
@@ -31,21 +48,28 @@ pub enum What<'a> {
     Entries(usize),
 }
 
+/// The word for so many entries.
+fn entries_phrase(n: usize) -> &'static str {
+    if n == 1 { "entry" } else { "entries" }
+}
+
 impl fmt::Display for What<'_> as WhatDisplay {
     fn fmt<W: fmt::Write>(&self, f: &mut fmt::Formatter<W>) -> fmt::Result {
         match *self {
             What::End => write!(f, "the line ends here"),
-            What::Unknown(word) => write!(f, "`{word}` is unknown"),
-            What::Unread(word) => write!(f, "`{word}` lines are not read yet"),
-            What::NoNumber(word) => write!(f, "`{word}` is no number here"),
-            What::OutOfRange(word) => write!(f, "{word} is out of range"),
-            What::OutOfPlace(word) => write!(f, "`{word}` is out of place"),
-            What::Extra(word) => write!(f, "`{word}` is a word too many"),
-            What::ShortPlace { place, entries: 1 } => write!(f, "place {place} has 1 entry"),
-            What::ShortPlace { place, entries } => write!(f, "place {place} has {entries} entries"),
+            What::Word(word, odd) => {
+                let phrase = odd_phrase(odd);
+                write!(f, "`{word}` {phrase}")
+            }
+            What::ShortPlace { place, entries } => {
+                let phrase = entries_phrase(entries);
+                write!(f, "place {place} has {entries} {phrase}")
+            }
             What::LongPlace { place, word } => write!(f, "place {place} goes on with `{word}`"),
-            What::Entries(1) => write!(f, "the index has 1 entry"),
-            What::Entries(entries) => write!(f, "the index has {entries} entries"),
+            What::Entries(entries) => {
+                let phrase = entries_phrase(entries);
+                write!(f, "the index has {entries} {phrase}")
+            }
         }
     }
 }
@@ -67,31 +91,41 @@ pub enum Expected {
     IndexEntry,
     /// The number of a place.
     Place,
-    /// So many entries, one for each axis.
-    Entries(usize),
     /// Entries for no more axes than a layout can have.
     FewEntries,
     /// `,` or the end, after a place's entries.
     Comma,
     End,
+    /// So many entries, one for each axis.
+    Entries(usize),
+}
+
+fn expected_phrase(expected: Expected) -> &'static str {
+    match expected {
+        Expected::Command => "layout, find, number or place",
+        Expected::Kind => "dense, diagonal or sparse",
+        Expected::Layout => "the number of a layout, from 0",
+        Expected::Length => "the length of an axis, 1 to 4,096",
+        Expected::Colon => "`:` and the places",
+        Expected::PlaceEntry => "an entry of 0 to 65,535",
+        Expected::IndexEntry => "an entry that fits 64 bits with a sign",
+        Expected::Place => "the number of a place, which fits 64 bits",
+        Expected::FewEntries => "at most 4 entries",
+        Expected::Comma => "`,` or the end of the line",
+        Expected::End => "the end of the line",
+        Expected::Entries(_) => "one for each axis",
+    }
 }
 
 impl fmt::Display for Expected as ExpectedDisplay {
     fn fmt<W: fmt::Write>(&self, f: &mut fmt::Formatter<W>) -> fmt::Result {
+        let phrase = expected_phrase(*self);
         match *self {
-            Expected::Command => write!(f, "layout, find, number or place"),
-            Expected::Kind => write!(f, "dense, diagonal or sparse"),
-            Expected::Layout => write!(f, "the number of a layout, from 0"),
-            Expected::Length => write!(f, "the length of an axis, 1 to 4,096"),
-            Expected::Colon => write!(f, "`:` and the places"),
-            Expected::PlaceEntry => write!(f, "an entry of 0 to 65,535"),
-            Expected::IndexEntry => write!(f, "an entry that fits 64 bits with a sign"),
-            Expected::Place => write!(f, "the number of a place, which fits 64 bits"),
-            Expected::Entries(1) => write!(f, "1 entry, for the one axis"),
-            Expected::Entries(n) => write!(f, "{n} entries, one for each axis"),
-            Expected::FewEntries => write!(f, "at most 4 entries"),
-            Expected::Comma => write!(f, "`,` or the end of the line"),
-            Expected::End => write!(f, "the end of the line"),
+            Expected::Entries(n) => {
+                let entries = entries_phrase(n);
+                write!(f, "{n} {entries}, {phrase}")
+            }
+            _ => write!(f, "{phrase}"),
         }
     }
 }
@@ -141,26 +175,33 @@ pub struct Broken {
     pub rule: Rule,
 }
 
+fn rank_phrase(kind: LayoutKind) -> &'static str {
+    match kind {
+        LayoutKind::Dense => "a dense layout must have 0 to 4 axes",
+        LayoutKind::Diagonal => "a diagonal layout must have 1 to 4 axes",
+        LayoutKind::Sparse => "a sparse layout must have 1 to 4 axes",
+    }
+}
+
+/// A broken rule with its limits.
+fn rule_phrase(broken: Broken) -> &'static str {
+    match broken.rule {
+        Rule::Room => "there is no room for so many layouts",
+        Rule::Kind => "there can be no layout of this kind here",
+        Rule::Rank => rank_phrase(broken.kind),
+        Rule::Length => "each axis must have a length of 1 to 4,096",
+        Rule::Count => "a layout must have 1 to 65,536 places",
+        Rule::Axes => "the axes of a diagonal layout must be of one length",
+        Rule::Pool => "each place must have an entry for each axis",
+        Rule::Inside => "each place must be inside the shape",
+        Rule::Order => "each place must come before the next one",
+    }
+}
+
 impl fmt::Display for Broken as BrokenDisplay {
     fn fmt<W: fmt::Write>(&self, f: &mut fmt::Formatter<W>) -> fmt::Result {
-        let kind = kind_name(self.kind);
-        match self.rule {
-            Rule::Room => write!(f, "there is no room for so many layouts"),
-            Rule::Kind => write!(f, "there can be no {kind} layout here"),
-            Rule::Rank => match self.kind {
-                LayoutKind::Dense => write!(f, "a dense layout must have 0 to 4 axes"),
-                LayoutKind::Diagonal | LayoutKind::Sparse => write!(
-                    f,
-                    "a {kind} layout must have 1 to 4 axes"
-                ),
-            },
-            Rule::Length => write!(f, "each axis must have a length of 1 to 4,096"),
-            Rule::Count => write!(f, "a layout must have 1 to 65,536 places"),
-            Rule::Axes => write!(f, "the axes of a diagonal layout must be of one length"),
-            Rule::Pool => write!(f, "each place must have an entry for each axis"),
-            Rule::Inside => write!(f, "each place must be inside the shape"),
-            Rule::Order => write!(f, "each place must come before the next one"),
-        }
+        let phrase = rule_phrase(*self);
+        write!(f, "{phrase}")
     }
 }
 

@@ -12,6 +12,7 @@ use crate::fault::Expected;
 use crate::fault::Fault;
 use crate::fault::FaultFromAlloc;
 use crate::fault::FaultFromRefused;
+use crate::fault::Odd;
 use crate::fault::What;
 use crate::names::kind_of;
 use crate::number::first_four;
@@ -33,7 +34,7 @@ fn read_kind<'a>(words: &mut Words<'a>) -> Result<LayoutKind, Fault<'a>>
     let word = words.word(Expected::Kind)?;
     match kind_of(word) {
         Some(kind) => Ok(kind),
-        None => Err(words.fault(What::Unknown(word), Expected::Kind)),
+        None => Err(words.fault(What::Word(word, Odd::Unknown), Expected::Kind)),
     }
 }
 
@@ -99,7 +100,7 @@ fn read_rest<'a>(
     match kind {
         LayoutKind::Dense | LayoutKind::Diagonal => {
             if colon {
-                return Err(words.fault(What::OutOfPlace(":"), Expected::End));
+                return Err(words.fault(What::Word(":", Odd::OutOfPlace), Expected::End));
             }
             Ok(0)
         }

@@ -6,6 +6,7 @@ use crate::ask::Ask;
 use crate::ask::Entries;
 use crate::fault::Expected;
 use crate::fault::Fault;
+use crate::fault::Odd;
 use crate::fault::What;
 use crate::number::first_four;
 use crate::words::Words;
@@ -17,7 +18,7 @@ fn read_entries<'a>(heap: Global, words: &mut Words<'a>) -> Result<Entries, Faul
 {
     let numbers = words.numbers::<i64>(heap, Expected::IndexEntry)?;
     if numbers.colon {
-        return Err(words.fault(What::OutOfPlace(":"), Expected::End));
+        return Err(words.fault(What::Word(":", Odd::OutOfPlace), Expected::End));
     }
     let count = numbers.values.len();
     if count > 4 {

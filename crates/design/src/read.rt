@@ -13,6 +13,7 @@ use crate::fault::Expected;
 use crate::fault::Fault;
 use crate::fault::FaultFromAlloc;
 use crate::fault::FaultFromRefused;
+use crate::fault::Odd;
 use crate::fault::What;
 use crate::layout_line::LayoutLine;
 use crate::layout_line::read_layout;
@@ -62,7 +63,7 @@ fn read_ask<'a>(
             let (layout, number) = read_place(words)?;
             Ok(Ask::Place { layout, number })
         }
-        _ => Err(words.fault(What::Unread(word), Expected::Command)),
+        _ => Err(words.fault(What::Word(word, Odd::Unread), Expected::Command)),
     }
 }
 
@@ -112,7 +113,7 @@ impl<'a> Design<'a> {
                 let ask = read_ask(heap, &mut words, word, command)?;
                 self.add_question(line, text, ask)
             }
-            None => Err(words.fault(What::Unknown(word), Expected::Command)),
+            None => Err(words.fault(What::Word(word, Odd::Unknown), Expected::Command)),
         }
     }
 }

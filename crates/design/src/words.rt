@@ -22,6 +22,7 @@ use crate::fault::Expected;
 use crate::fault::Fault;
 use crate::fault::FaultFromAlloc;
 use crate::fault::FaultFromRefused;
+use crate::fault::Odd;
 use crate::fault::What;
 use crate::number::NumberFault;
 use crate::number::number;
@@ -96,10 +97,13 @@ impl<'a> Words<'a> {
     {
         match number(word) {
             Ok(n) => Ok(n),
-            Err(NumberFault::OutOfRange) => Err(self.fault(What::OutOfRange(word), expected)),
+            Err(NumberFault::OutOfRange) => Err(self.fault(
+                What::Word(word, Odd::OutOfRange),
+                expected,
+            )),
             Err(NumberFault::NoNumber) => match word {
-                ":" | "," => Err(self.fault(What::OutOfPlace(word), expected)),
-                _ => Err(self.fault(What::NoNumber(word), expected)),
+                ":" | "," => Err(self.fault(What::Word(word, Odd::OutOfPlace), expected)),
+                _ => Err(self.fault(What::Word(word, Odd::NoNumber), expected)),
             },
         }
     }
@@ -147,7 +151,7 @@ impl<'a> Words<'a> {
         ensures { λ r. ⌜ Cases r (λ _. left (now (self .entry) .rest) ≡ []) (λ f. (left (now (self .entry) .rest) ≡ [] → ⊥) × Blames (now (self .entry) .line) wanted.End f) ⌝ }
     {
         match self.next_word() {
-            Some(word) => Err(self.fault(What::Extra(word), Expected::End)),
+            Some(word) => Err(self.fault(What::Word(word, Odd::Extra), Expected::End)),
             None => Ok(()),
         }
     }

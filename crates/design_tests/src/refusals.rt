@@ -76,11 +76,11 @@ fn numbers(rt: LibcRuntime) -> Result<(), Fail> {
         },
         Case {
             text: "layout dense 18446744073709551616",
-            said: "d:1: 18446744073709551616 is out of range, expected the length of an axis, 1 to 4,096",
+            said: "d:1: `18446744073709551616` is out of range, expected the length of an axis, 1 to 4,096",
         },
         Case {
             text: "layout sparse 3 : 65536",
-            said: "d:1: 65536 is out of range, expected an entry of 0 to 65,535",
+            said: "d:1: `65536` is out of range, expected an entry of 0 to 65,535",
         },
         Case {
             text: "layout sparse 3 : -1",
@@ -88,15 +88,15 @@ fn numbers(rt: LibcRuntime) -> Result<(), Fail> {
         },
         Case {
             text: "find 0 9223372036854775808",
-            said: "d:1: 9223372036854775808 is out of range, expected an entry that fits 64 bits with a sign",
+            said: "d:1: `9223372036854775808` is out of range, expected an entry that fits 64 bits with a sign",
         },
         Case {
             text: "number 0 -9223372036854775809",
-            said: "d:1: -9223372036854775809 is out of range, expected an entry that fits 64 bits with a sign",
+            said: "d:1: `-9223372036854775809` is out of range, expected an entry that fits 64 bits with a sign",
         },
         Case {
             text: "place 0 18446744073709551616",
-            said: "d:1: 18446744073709551616 is out of range, expected the number of a place, which fits 64 bits",
+            said: "d:1: `18446744073709551616` is out of range, expected the number of a place, which fits 64 bits",
         },
         Case {
             text: "place 0",
@@ -138,7 +138,7 @@ fn places(rt: LibcRuntime) -> Result<(), Fail> {
         },
         Case {
             text: "layout sparse 3 : 0 ,",
-            said: "d:1: place 1 has 0 entries, expected 1 entry, for the one axis",
+            said: "d:1: place 1 has 0 entries, expected 1 entry, one for each axis",
         },
         Case {
             text: "layout sparse 3 3 : 0 0 0 2",
