@@ -79,7 +79,7 @@ pub enum Expected {
 impl fmt::Display for Expected as ExpectedDisplay {
     fn fmt<W: fmt::Write>(&self, f: &mut fmt::Formatter<W>) -> fmt::Result {
         match *self {
-            Expected::Command => write!(f, "layout, find, number or place"),
+            Expected::Command => write!(f, "layout, find, number, place, from or trans"),
             Expected::Kind => write!(f, "dense, diagonal or sparse"),
             Expected::Layout => write!(f, "the number of a layout, from 0"),
             Expected::Length => write!(f, "the length of an axis, 1 to 4,096"),
