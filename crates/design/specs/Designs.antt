@@ -18,7 +18,7 @@ use Rattle.design.specs.declared.command.Command.the-variants as command
 use Rattle.design.specs.declared.layout_line.LayoutLine.{LayoutLine}
 use Rattle.design.specs.declared.read.Design.{Design}
 use Rattle.design.specs.Keywords.{command-word}
-use Rattle.design.specs.Lines.{Layout-said, Lookup-said, Place-said}
+use Rattle.design.specs.Lines.{Layout-said, Lookup-said, Pair-said, Translation-said}
 use Rattle.design.specs.Texts.{words}
 
 -- a line up to the first `#`
@@ -42,14 +42,14 @@ nothing = record { layouts = []; pool = []; questions = [] }
 abbrev pub Asked : Command → List (List ℕ) → Ask → Type 0
 Asked command.Find ws a = (n : ℕ) × (e : Entries) × (a ≡ ask.Find n e) × Lookup-said ws n e
 Asked command.Number ws a = (n : ℕ) × (e : Entries) × (a ≡ ask.Number n e) × Lookup-said ws n e
-Asked command.Place ws a = (n k : ℕ) × (a ≡ ask.Place n k) × Place-said ws n k
+Asked command.Place ws a = (n k : ℕ) × (a ≡ ask.Place n k) × Pair-said ws n k
+Asked command.From ws a = (s v : ℕ) × (a ≡ ask.From s v) × Pair-said ws s v
+Asked command.Trans ws a = (s v t : ℕ) × (e : Entries) × (a ≡ ask.Trans s v t e) × Translation-said ws s v t e
 Asked command.Layout ws a = ⊥
 Asked command.Open ws a = ⊥
 Asked command.Block ws a = ⊥
 Asked command.Close ws a = ⊥
 Asked command.Value ws a = ⊥
-Asked command.From ws a = ⊥
-Asked command.Trans ws a = ⊥
 Asked command.Binary ws a = ⊥
 Asked command.Fn ws a = ⊥
 

@@ -77,6 +77,11 @@ pub record Entries-said (ws : List (List ℕ)) (e : Entries) : Type 0 where
 abbrev pub Lookup-said : List (List ℕ) → ℕ → Entries → Type 0
 Lookup-said ws layout e = (w : List ℕ) × (es : List (List ℕ)) × (ws ≡ w ∷ es) × natural w layout × Entries-said es e
 
--- the words of the question for a place say a layout and a number
-abbrev pub Place-said : List (List ℕ) → ℕ → ℕ → Type 0
-Place-said ws layout number = (w v : List ℕ) × (ws ≡ w ∷ v ∷ []) × natural w layout × natural v number
+-- two words say two numbers
+abbrev pub Pair-said : List (List ℕ) → ℕ → ℕ → Type 0
+Pair-said ws m n = (w v : List ℕ) × (ws ≡ w ∷ v ∷ []) × natural w m × natural v n
+
+-- the words of a translation say a source, a via, a target and a start
+abbrev pub Translation-said : List (List ℕ) → ℕ → ℕ → ℕ → Entries → Type 0
+Translation-said ws source via target e =
+    (s v t : List ℕ) × (es : List (List ℕ)) × (ws ≡ s ∷ v ∷ t ∷ es) × natural s source × natural v via × natural t target × Entries-said es e

@@ -1,4 +1,4 @@
-//! Questions about layouts.
+//! Questions about layouts and translations.
 use layout::index::Index;
 
 /// An index as a question gives it: so many entries, and 0 beyond.
@@ -12,11 +12,32 @@ pub struct Entries {
 #[derive(Clone, Copy)]
 pub enum Ask {
     /// The wide lookup of an index.
-    Find { layout: usize, entries: Entries },
+    Find {
+        layout: usize,
+        entries: Entries,
+    },
     /// The strict lookup of an index.
-    Number { layout: usize, entries: Entries },
+    Number {
+        layout: usize,
+        entries: Entries,
+    },
     /// The place with a number.
-    Place { layout: usize, number: usize },
+    Place {
+        layout: usize,
+        number: usize,
+    },
+    /// How a source makes the elements of a via.
+    From {
+        source: usize,
+        via: usize,
+    },
+    /// The translation of a source by way of a via that begins at `start` in a target.
+    Trans {
+        source: usize,
+        via: usize,
+        target: usize,
+        start: Entries,
+    },
 }
 
 /// A question with its line: the line's number, and its text without a comment.

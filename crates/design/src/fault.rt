@@ -102,7 +102,7 @@ pub enum Expected {
 
 fn expected_phrase(expected: Expected) -> &'static str {
     match expected {
-        Expected::Command => "layout, find, number or place",
+        Expected::Command => "layout, find, number, place, from or trans",
         Expected::Kind => "dense, diagonal or sparse",
         Expected::Layout => "the number of a layout, from 0",
         Expected::Length => "the length of an axis, 1 to 4,096",

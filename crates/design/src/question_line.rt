@@ -1,7 +1,7 @@
 //! Question lines.
 ghost use mathlib.Core.Path.{_≡_};
 ghost use Rattle.std.specs.Vec.{made};
-ghost use Rattle.design.specs.Lines.{unread, Entries-said, Lookup-said, Place-said};
+ghost use Rattle.design.specs.Lines.{unread, Entries-said, Lookup-said, Pair-said, Translation-said};
 use crate::ask::Ask;
 use crate::ask::Entries;
 use crate::fault::Expected;
@@ -37,12 +37,30 @@ pub fn read_lookup<'a>(heap: Global, words: &mut Words<'a>) -> Result<(usize, En
     Ok((layout, entries))
 }
 
-/// Reads the question for a place after its first word: a layout and a number.
-pub fn read_place<'a>(words: &mut Words<'a>) -> Result<(usize, usize), Fault<'a>>
-    ensures { λ r. ⌜ made r (λ q. Place-said (unread (now (words .entry))) (q .0) (q .1)) ⌝ }
+/// Reads the two numbers of a line after its first word.
+pub fn read_pair<'a>(
+    words: &mut Words<'a>,
+    first: Expected,
+    second: Expected,
+) -> Result<(usize, usize), Fault<'a>>
+    ensures { λ r. ⌜ made r (λ q. Pair-said (unread (now (words .entry))) (q .0) (q .1)) ⌝ }
 {
-    let layout = words.number(Expected::Layout)?;
-    let number = words.number(Expected::Place)?;
+    let a = words.number(first)?;
+    let b = words.number(second)?;
     words.end()?;
-    Ok((layout, number))
+    Ok((a, b))
+}
+
+/// Reads a translation after its first word: source, via and target, and the start.
+pub fn read_translation<'a>(
+    heap: Global,
+    words: &mut Words<'a>,
+) -> Result<(usize, usize, usize, Entries), Fault<'a>>
+    ensures { λ r. ⌜ made r (λ q. Translation-said (unread (now (words .entry))) (q .0) (q .1) (q .2) (q .3)) ⌝ }
+{
+    let source = words.number(Expected::Layout)?;
+    let via = words.number(Expected::Layout)?;
+    let target = words.number(Expected::Layout)?;
+    let start = read_entries(heap, words)?;
+    Ok((source, via, target, start))
 }

@@ -18,7 +18,8 @@ use crate::fault::What;
 use crate::layout_line::LayoutLine;
 use crate::layout_line::read_layout;
 use crate::question_line::read_lookup;
-use crate::question_line::read_place;
+use crate::question_line::read_pair;
+use crate::question_line::read_translation;
 use crate::words::Words;
 use std::alloc::Global;
 
@@ -60,8 +61,21 @@ fn read_ask<'a>(
             Ok(Ask::Number { layout, entries })
         }
         Command::Place => {
-            let (layout, number) = read_place(words)?;
+            let (layout, number) = read_pair(words, Expected::Layout, Expected::Place)?;
             Ok(Ask::Place { layout, number })
+        }
+        Command::From => {
+            let (source, via) = read_pair(words, Expected::Layout, Expected::Layout)?;
+            Ok(Ask::From { source, via })
+        }
+        Command::Trans => {
+            let (source, via, target, start) = read_translation(heap, words)?;
+            Ok(Ask::Trans {
+                source,
+                via,
+                target,
+                start,
+            })
         }
         _ => Err(words.fault(What::Word(word, Odd::Unread), Expected::Command)),
     }

@@ -38,15 +38,15 @@ fn words(rt: LibcRuntime) -> Result<(), Fail> {
     let cases = [
         Case {
             text: "layout dense 2\n\n# next\n lay dense 2",
-            said: "d:4: `lay` is unknown, expected layout, find, number or place",
+            said: "d:4: `lay` is unknown, expected layout, find, number, place, from or trans",
         },
         Case {
             text: "open 0 constant",
-            said: "d:1: `open` lines are not read yet, expected layout, find, number or place",
+            said: "d:1: `open` lines are not read yet, expected layout, find, number, place, from or trans",
         },
         Case {
             text: "fn sin/1 0",
-            said: "d:1: `fn` lines are not read yet, expected layout, find, number or place",
+            said: "d:1: `fn` lines are not read yet, expected layout, find, number, place, from or trans",
         },
         Case {
             text: "layout",

@@ -3,7 +3,6 @@ use mathlib.Core.List.{List, [], _∷_, _++_, map}
 use Prim.Native.Nat.{ℕ}
 use lib.Chars.{codes}
 use lib.ListN.{length, getD, take}
-use Rattle.std.specs.Iters.{counting}
 use Rattle.std.specs.Joined.{joined}
 use Rattle.std.specs.Written.{decimal, signed}
 use Rattle.layout.specs.declared.fault.Report.{Report}
@@ -11,12 +10,9 @@ use Rattle.layout.specs.declared.shape.Shape.{Shape}
 use Rattle.layout.specs.Answers.{shape-of}
 use Rattle.layout.specs.Faults.{reported}
 use Rattle.layout.specs.Layouts.{Layout, blank}
-use Rattle.design.specs.declared.ask.Question.{Question}
 use Rattle.design.specs.Keywords.{kind-word, layer-word}
-use Rattle.design.specs.Texts.{words}
 use Rattle.report.specs.declared.answer.Answer.{Answer}
 use Rattle.report.specs.declared.answer.Answer.the-variants.{Number, Place, Nothing, Refused}
-use Rattle.report.specs.Told.{told}
 
 -- texts with another between them
 abbrev pub separated : List ℕ → List (List ℕ) → List ℕ
@@ -45,14 +41,3 @@ answer-fact (Number n) = decimal n
 answer-fact (Place r x) = separated (codes " ") (map signed (take r x))
 answer-fact Nothing = codes "none"
 answer-fact (Refused f) = refusal-fact (reported f)
-
--- the words of a question, and its answer
-abbrev pub question-fact : List Layout → Question → List ℕ
-question-fact ls q = joined before-blank (words (q .text .now)) ++ (codes "-> " ++ (answer-fact (told ls (q .ask)) ++ codes "\n"))
-
--- the fact of layout n
-abbrev pub layout-fact-of : List Layout → ℕ → List ℕ
-layout-fact-of ls n = layout-fact n (shape-of (getD ls n blank))
-
-abbrev pub facts : List Layout → List Question → List ℕ
-facts ls qs = joined (λ fact. fact) (map (layout-fact-of ls) (counting 0 (length ls))) ++ joined (question-fact ls) qs

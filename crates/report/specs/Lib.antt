@@ -1,3 +1,5 @@
 pub mod Facts
+pub mod Translations
+pub mod Answers
 pub mod Runs
 pub mod Told

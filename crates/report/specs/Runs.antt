@@ -18,7 +18,7 @@ use Rattle.design.specs.declared.layout_line.LayoutLine.{LayoutLine}
 use Rattle.design.specs.declared.read.Design.{Design}
 use Rattle.report.specs.declared.run.Form.{Form}
 use Rattle.report.specs.declared.run.Form.the-variants.{Report, Facts}
-use Rattle.report.specs.Facts.{facts}
+use Rattle.report.specs.Answers.{facts}
 
 -- the layouts of a design
 abbrev pub records : List LayoutLine → List LayoutRecord
@@ -32,6 +32,8 @@ abbrev pub Matched : List Layout → Ask → Type 0
 Matched ls (ask.Find n e) = n < length ls → e .count ≡ rank (getD ls n blank)
 Matched ls (ask.Number n e) = n < length ls → e .count ≡ rank (getD ls n blank)
 Matched ls (ask.Place n k) = Unit {0}
+Matched ls (ask.From s v) = Unit {0}
+Matched ls (ask.Trans s v t e) = Unit {0}
 
 -- the fault of the first layout that breaks a rule, with its line and its kind
 abbrev pub Rule-told : List LayoutLine → List ℕ → Fault → Type 0

@@ -11,10 +11,8 @@ use Rattle.std.specs.declared.result.Result.{Result}
 use Rattle.std.specs.declared.result.Result.the-variants.{Ok, Err}
 use Rattle.layout.specs.declared.fault.LayoutFault.{LayoutFault}
 use Rattle.layout.specs.declared.fault.LayoutFault.the-variants.{Unknown}
-use Rattle.layout.specs.Answers.{wide-asked, number-asked, index-of}
+use Rattle.layout.specs.Answers.{index-of}
 use Rattle.layout.specs.Layouts.{Layout, blank, count, rank, at}
-use Rattle.design.specs.declared.ask.Ask.{Ask}
-use Rattle.design.specs.declared.ask.Ask.the-variants as ask
 use Rattle.report.specs.declared.answer.Answer.{Answer}
 use Rattle.report.specs.declared.answer.Answer.the-variants.{Number, Place, Nothing, Refused}
 
@@ -25,11 +23,6 @@ looked-up (Err f) = Refused f
 
 abbrev pub place-told : List Layout → ℕ → ℕ → Answer
 place-told ls n k = cond (ltb n (length ls)) (cond (ltb k (count (getD ls n blank))) (Place (rank (getD ls n blank)) (index-of (at (getD ls n blank) k))) Nothing) (Refused Unknown)
-
-abbrev pub told : List Layout → Ask → Answer
-told ls (ask.Find n e) = looked-up (wide-asked ls n (e .index))
-told ls (ask.Number n e) = looked-up (number-asked ls n (e .index))
-told ls (ask.Place n k) = place-told ls n k
 
 -- the index of a cell of a picture of up to two axes: a picture of one axis has one row
 abbrev pub cell-index : ℕ → ℕ → ℕ → List ℤ

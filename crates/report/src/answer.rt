@@ -1,13 +1,13 @@
-//! Answers to questions about layouts.
+//! Answers to lookups.
 ghost use mathlib.Core.Path.{_≡_};
-ghost use Rattle.report.specs.Told.{looked-up, place-told, told};
-use design::ask::Ask;
+ghost use Rattle.layout.specs.Answers.{wide-asked, number-asked};
+ghost use Rattle.report.specs.Told.{looked-up, place-told};
 use layout::catalogue::Catalogue;
 use layout::fault::LayoutFault;
 use layout::find::find_nnz_index;
 use layout::index::Index;
 
-/// What a catalogue answers a question.
+/// What a catalogue answers a lookup.
 #[derive(Clone, Copy)]
 pub enum Answer {
     /// The number of a place.
@@ -29,7 +29,22 @@ fn lookup_answer(r: Result<Option<usize>, LayoutFault>) -> Answer
     }
 }
 
-fn place_answer<C: Catalogue>(c: &C, layout: usize, number: usize) -> Answer
+/// The wide lookup of an index.
+pub fn find_answer<C: Catalogue>(c: &C, layout: usize, index: Index) -> Answer
+    ensures { λ a. ⌜ a ≡ looked-up (wide-asked (layouts (now (c .entry))) layout index) ⌝ }
+{
+    lookup_answer(find_nnz_index(c, layout, index))
+}
+
+/// The strict lookup of an index.
+pub fn number_answer<C: Catalogue>(c: &C, layout: usize, index: Index) -> Answer
+    ensures { λ a. ⌜ a ≡ looked-up (number-asked (layouts (now (c .entry))) layout index) ⌝ }
+{
+    lookup_answer(c.number(layout, index))
+}
+
+/// The place with a number.
+pub fn place_answer<C: Catalogue>(c: &C, layout: usize, number: usize) -> Answer
     ensures { λ a. ⌜ a ≡ place-told (layouts (now (c .entry))) layout number ⌝ }
 {
     match c.shape(layout) {
@@ -45,16 +60,5 @@ fn place_answer<C: Catalogue>(c: &C, layout: usize, number: usize) -> Answer
             }
         }
         Err(fault) => Answer::Refused(fault),
-    }
-}
-
-/// The answer to a question.
-pub fn answer_to<C: Catalogue>(c: &C, ask: Ask) -> Answer
-    ensures { λ a. ⌜ a ≡ told (layouts (now (c .entry))) ask ⌝ }
-{
-    match ask {
-        Ask::Find { layout, entries } => lookup_answer(find_nnz_index(c, layout, entries.index)),
-        Ask::Number { layout, entries } => lookup_answer(c.number(layout, entries.index)),
-        Ask::Place { layout, number } => place_answer(c, layout, number),
     }
 }

@@ -6,18 +6,25 @@ ghost use lib.ListN.{length, take};
 ghost use Rattle.std.specs.Joined.{joined};
 ghost use Rattle.std.specs.Of.String.{string-bytes};
 ghost use Rattle.std.specs.Vec.{made};
-ghost use Rattle.report.specs.Facts.{after-blank, before-blank, layout-fact, layout-fact-of, answer-fact, question-fact};
-ghost use Rattle.report.specs.Facts.{facts as facts-of};
+ghost use Rattle.report.specs.Answers.{layout-fact-of, asked-fact, question-fact};
+ghost use Rattle.report.specs.Answers.{facts as facts-of};
+ghost use Rattle.report.specs.Facts.{after-blank, before-blank, layout-fact, answer-fact};
 ghost use Rattle.design.specs.Texts.{words};
 use crate::answer::Answer;
-use crate::answer::answer_to;
+use crate::answer::find_answer;
+use crate::answer::number_answer;
+use crate::answer::place_answer;
 use crate::text::put_joined;
+use crate::text::put_refusal;
+use crate::translation::put_from;
+use crate::translation::put_trans;
+use design::ask::Ask;
 use design::ask::Question;
 use design::names::kind_name;
-use design::names::layer_name;
 use design::words::Words;
 use layout::catalogue::Catalogue;
 use layout::shape::Shape;
+use std::alloc::Global;
 use std::fmt;
 
 fn put_shape(out: &mut String, layout: usize, shape: Shape) -> fmt::Result
@@ -60,13 +67,24 @@ fn put_answer(out: &mut String, answer: Answer) -> fmt::Result
         Answer::Number(n) => write!(out, "{n}"),
         Answer::Place { rank, index } => put_joined(out, &index, rank, " "),
         Answer::Nothing => write!(out, "none"),
-        Answer::Refused(fault) => {
-            let report = fault.report();
-            let number = report.number;
-            let layer = layer_name(report.layer);
-            let place = report.place;
-            write!(out, "refuse {number} {layer} {place}")
-        }
+        Answer::Refused(fault) => put_refusal(out, fault.report()),
+    }
+}
+
+fn put_asked<C: Catalogue>(out: &mut String, heap: Global, c: &C, ask: Ask) -> fmt::Result
+    ensures { λ r. ⌜ made r (λ _. string-bytes (now (out .exit)) ≡ string-bytes (now (out .entry)) ++ asked-fact (layouts (now (c .entry))) ask) ⌝ }
+{
+    match ask {
+        Ask::Find { layout, entries } => put_answer(out, find_answer(c, layout, entries.index)),
+        Ask::Number { layout, entries } => put_answer(out, number_answer(c, layout, entries.index)),
+        Ask::Place { layout, number } => put_answer(out, place_answer(c, layout, number)),
+        Ask::From { source, via } => put_from(out, heap, c, source, via),
+        Ask::Trans {
+            source,
+            via,
+            target,
+            start,
+        } => put_trans(out, heap, c, source, via, start.index, target),
     }
 }
 
@@ -81,24 +99,34 @@ fn put_words(out: &mut String, question: Question) -> fmt::Result
     Ok(())
 }
 
-fn put_question<C: Catalogue>(out: &mut String, c: &C, question: Question) -> fmt::Result
+fn put_question<C: Catalogue>(
+    out: &mut String,
+    heap: Global,
+    c: &C,
+    question: Question,
+) -> fmt::Result
     ensures { λ r. ⌜ made r (λ _. string-bytes (now (out .exit)) ≡ string-bytes (now (out .entry)) ++ question-fact (layouts (now (c .entry))) (question .entry)) ⌝ }
 {
     put_words(out, question)?;
     write!(out, "-> ")?;
-    put_answer(out, answer_to(c, question.ask))?;
+    put_asked(out, heap, c, question.ask)?;
     writeln!(out)
 }
 
 /// Writes a fact for each layout, and then one for each question.
-pub fn put_facts<C: Catalogue>(out: &mut String, c: &C, questions: &[Question]) -> fmt::Result
+pub fn put_facts<C: Catalogue>(
+    out: &mut String,
+    heap: Global,
+    c: &C,
+    questions: &[Question],
+) -> fmt::Result
     ensures { λ r. ⌜ made r (λ _. string-bytes (now (out .exit)) ≡ string-bytes (now (out .entry)) ++ facts-of (layouts (now (c .entry))) (now (questions .entry))) ⌝ }
 {
     for layout in 0..c.count() {
         put_layout(out, c, layout)?;
     }
     for question in questions {
-        put_question(out, c, *question)?;
+        put_question(out, heap, c, *question)?;
     }
     Ok(())
 }

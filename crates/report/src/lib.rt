@@ -5,3 +5,5 @@ pub mod picture;
 pub mod report;
 pub mod run;
 pub mod text;
+pub mod translation;
+pub mod words;

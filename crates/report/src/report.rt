@@ -1,8 +1,12 @@
 //! A report in plain words.
 use crate::answer::Answer;
-use crate::answer::answer_to;
+use crate::answer::find_answer;
+use crate::answer::number_answer;
+use crate::answer::place_answer;
 use crate::picture::put_picture;
 use crate::text::put_joined;
+use crate::words::put_from_words;
+use crate::words::put_trans_words;
 use design::ask::Ask;
 use design::ask::Entries;
 use design::ask::Question;
@@ -10,9 +14,10 @@ use design::layout_line::LayoutLine;
 use design::names::kind_name;
 use design::names::layer_name;
 use layout::catalogue::Catalogue;
-use layout::fault::LayoutFault;
+use layout::fault::Report;
 use layout::index::Index;
 use layout::shape::Shape;
+use std::alloc::Global;
 use std::fmt;
 
 fn put_shape(out: &mut String, shape: Shape) -> fmt::Result {
@@ -52,54 +57,77 @@ fn put_lookup(out: &mut String, how: &str, layout: usize, entries: Entries) -> f
     write!(out, " in layout {layout}")
 }
 
-fn put_ask(out: &mut String, ask: Ask) -> fmt::Result {
-    match ask {
-        Ask::Find { layout, entries } => put_lookup(out, "wide", layout, entries),
-        Ask::Number { layout, entries } => put_lookup(out, "strict", layout, entries),
-        Ask::Place { layout, number } => write!(out, "place {number} of layout {layout}"),
-    }
-}
-
-fn layout_asked(ask: Ask) -> usize {
-    match ask {
-        Ask::Find { layout, entries: _ } => layout,
-        Ask::Number { layout, entries: _ } => layout,
-        Ask::Place { layout, number: _ } => layout,
-    }
-}
-
-fn put_refusal(out: &mut String, layout: usize, fault: LayoutFault) -> fmt::Result {
-    let report = fault.report();
+fn put_refusal(out: &mut String, report: Report) -> fmt::Result {
     let number = report.number;
     let layer = layer_name(report.layer);
     let place = report.place;
-    write!(
-        out,
-        "refused ({number}, {layer}, place {place}): there is no layout {layout}"
-    )
+    write!(out, "refused ({number}, {layer}, place {place}): ")
 }
 
 fn put_answer(out: &mut String, layout: usize, answer: Answer) -> fmt::Result {
     match answer {
-        Answer::Number(n) => write!(out, "place {n}"),
-        Answer::Place { rank, index } => put_index(out, rank, index),
-        Answer::Nothing => write!(out, "no place"),
-        Answer::Refused(fault) => put_refusal(out, layout, fault),
+        Answer::Number(n) => write!(out, ": place {n}"),
+        Answer::Place { rank, index } => {
+            write!(out, ": ")?;
+            put_index(out, rank, index)
+        }
+        Answer::Nothing => write!(out, ": no place"),
+        Answer::Refused(fault) => {
+            write!(out, ": ")?;
+            put_refusal(out, fault.report())?;
+            write!(out, "there is no layout {layout}")
+        }
     }
 }
 
-fn put_question<C: Catalogue>(out: &mut String, c: &C, question: Question) -> fmt::Result {
+fn put_asked<C: Catalogue>(out: &mut String, heap: Global, c: &C, ask: Ask) -> fmt::Result {
+    match ask {
+        Ask::Find { layout, entries } => {
+            put_lookup(out, "wide", layout, entries)?;
+            put_answer(out, layout, find_answer(c, layout, entries.index))
+        }
+        Ask::Number { layout, entries } => {
+            put_lookup(out, "strict", layout, entries)?;
+            put_answer(out, layout, number_answer(c, layout, entries.index))
+        }
+        Ask::Place { layout, number } => {
+            write!(out, "place {number} of layout {layout}")?;
+            put_answer(out, layout, place_answer(c, layout, number))
+        }
+        Ask::From { source, via } => {
+            write!(out, "from layout {source} to layout {via}: ")?;
+            put_from_words(out, c, source, via)
+        }
+        Ask::Trans {
+            source,
+            via,
+            target,
+            start,
+        } => {
+            write!(out, "from layout {source} by way of layout {via} to ")?;
+            put_index(out, start.count, start.index)?;
+            write!(out, " in layout {target}: ")?;
+            put_trans_words(out, heap, c, source, via, start.index, target)
+        }
+    }
+}
+
+fn put_question<C: Catalogue>(
+    out: &mut String,
+    heap: Global,
+    c: &C,
+    question: Question,
+) -> fmt::Result {
     let line = question.line;
     write!(out, "line {line}: ")?;
-    put_ask(out, question.ask)?;
-    write!(out, ": ")?;
-    put_answer(out, layout_asked(question.ask), answer_to(c, question.ask))?;
+    put_asked(out, heap, c, question.ask)?;
     writeln!(out)
 }
 
 /// Writes each layout with its line and a picture, and then each question with its answer.
 pub fn put_report<C: Catalogue>(
     out: &mut String,
+    heap: Global,
     c: &C,
     lines: &[LayoutLine],
     questions: &[Question],
@@ -110,7 +138,7 @@ pub fn put_report<C: Catalogue>(
         }
     }
     for question in questions {
-        put_question(out, c, *question)?;
+        put_question(out, heap, c, *question)?;
     }
     Ok(())
 }

@@ -80,12 +80,20 @@ fn check_question<'a, C: Catalogue>(c: &C, question: Question<'a>) -> Result<(),
         Ask::Place {
             layout: _,
             number: _,
+        }
+        | Ask::From { source: _, via: _ }
+        | Ask::Trans {
+            source: _,
+            via: _,
+            target: _,
+            start: _,
         } => Ok(()),
     }
 }
 
 fn put_answers<'a, C: Catalogue>(
     out: &mut String,
+    heap: Global,
     c: &C,
     design: &Design<'a>,
     form: Form,
@@ -98,11 +106,12 @@ fn put_answers<'a, C: Catalogue>(
     match form {
         Form::Report => put_report(
             out,
+            heap,
             c,
             design.layouts.as_slice(),
             design.questions.as_slice(),
         )?,
-        Form::Facts => put_facts(out, c, design.questions.as_slice())?,
+        Form::Facts => put_facts(out, heap, c, design.questions.as_slice())?,
     }
     Ok(())
 }
@@ -161,7 +170,7 @@ fn answers<'a, 'x>(
 {
     let table = Table::new(records, design.pool.as_slice());
     let mut out = String::new(heap);
-    put_answers(&mut out, &table, design, form)?;
+    put_answers(&mut out, heap, &table, design, form)?;
     Ok(out)
 }
 

@@ -8,7 +8,9 @@ ghost use lib.ListN.{take};
 ghost use Rattle.std.specs.declared.option.Option.the-variants.{Some};
 ghost use Rattle.std.specs.Of.String.{string-bytes};
 ghost use Rattle.std.specs.Vec.{made};
-ghost use Rattle.report.specs.Facts.{separated};
+ghost use Rattle.report.specs.Facts.{separated, refusal-fact};
+use design::names::layer_name;
+use layout::fault::Report;
 use std::fmt;
 use std::fmt::Display;
 
@@ -36,4 +38,14 @@ pub fn put_joined<N: Display>(
         write!(out, "{gap}{item}")?;
     }
     Ok(())
+}
+
+/// Writes a refusal with its number, layer and place.
+pub fn put_refusal(out: &mut String, report: Report) -> fmt::Result
+    ensures { λ r. ⌜ made r (λ _. string-bytes (now (out .exit)) ≡ string-bytes (now (out .entry)) ++ refusal-fact report) ⌝ }
+{
+    let number = report.number;
+    let layer = layer_name(report.layer);
+    let place = report.place;
+    write!(out, "refuse {number} {layer} {place}")
 }

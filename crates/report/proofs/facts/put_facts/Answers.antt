@@ -6,7 +6,7 @@ use Rattle.std.specs.Iters.{counting}
 use Rattle.std.specs.Joined.{joined}
 use Rattle.std.specs.Of.String.{string-bytes}
 use Rattle.std.proofs.shelf.Lists.{take-all}
-use Rattle.report.specs.Facts.{layout-fact-of, question-fact}
+use Rattle.report.specs.Answers.{layout-fact-of, question-fact}
 use Rattle.report.proofs.Texts.{more-counted, more-joined}
 use Rattle.report.proofs.facts.put_facts.Needs as need
 

@@ -4,7 +4,7 @@ use lib.ListN.{take}
 use Rattle.std.specs.Iters.{counting}
 use Rattle.std.specs.Joined.{joined}
 use Rattle.std.specs.Of.String.{string-bytes}
-use Rattle.report.specs.Facts.{layout-fact-of, question-fact}
+use Rattle.report.specs.Answers.{layout-fact-of, question-fact}
 use Rattle.report.proofs.facts.put_facts.Given as given
 
 abbrev pub Inv-loop-layout : given.InvT-loop-layout

@@ -1,0 +1,6 @@
+use borrow.Author.Needs.{needs}
+use mathlib.Core.List.{append-assoc}
+use Rattle.report.proofs.translation.put_made.Needs as need
+
+pub returns : need.returns
+returns g c = search (needs, append-assoc)
