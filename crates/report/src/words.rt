@@ -90,19 +90,32 @@ pub fn put_from_words<C: Catalogue>(
     }
 }
 
+/// No more entries are written.
+const MOST_ENTRIES: usize = 32;
+
+fn put_entries(out: &mut String, entries: &[i32]) -> fmt::Result {
+    put_joined(out, entries, MOST_ENTRIES, " ")?;
+    if entries.len() > MOST_ENTRIES {
+        let more = entries.len() - MOST_ENTRIES;
+        write!(out, " .. and {more} more")?;
+    }
+    Ok(())
+}
+
 fn put_lists(out: &mut String, t: Translation, ranges: &[i32], list: &[i32]) -> fmt::Result {
     if ranges.len() > 0 {
-        write!(out, "; ranges ")?;
-        put_joined(out, ranges, 32, " ")?;
+        write!(out, "; ranges, by start and end: ")?;
+        put_entries(out, ranges)?;
     }
+    let elements = t.elements;
     match t.to {
-        TranslationTo::Contiguous { start, end } => write!(
+        TranslationTo::Contiguous { start, end: _ } => write!(
             out,
-            "; stored from place {start} up to {end}"
+            "; stored one after another from place {start} on, {elements} in all"
         ),
         TranslationTo::Listed => {
             write!(out, "; stored at places ")?;
-            put_joined(out, list, 32, ", ")
+            put_entries(out, list)
         }
     }
 }
