@@ -1,4 +1,6 @@
 //! Worked cases: proved of the definitions, and run through the code.
+#![tactic(auto)]
+
 ghost use Rattle.cases.specs.Worked.{Worked};
 
 /// Each worked case holds of the definitions that the contracts are written in.

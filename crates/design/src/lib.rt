@@ -8,6 +8,8 @@
 //!     place L N          the place with the number N
 //!
 //! Layouts are numbered from 0 in the order of their lines.
+#![tactic(auto)]
+
 pub mod ask;
 pub mod command;
 pub mod fault;

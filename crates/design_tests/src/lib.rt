@@ -1,4 +1,6 @@
 //! Tests of reading designs and of reports.
+#![tactic(auto)]
+
 #[cfg(test)]
 mod refusals;
 #[cfg(test)]

@@ -1,4 +1,6 @@
 //! Expressions: nodes in postfix order, the functions that they call, and the hosts that answer for these.
+#![tactic(auto)]
+
 pub mod codes;
 pub mod fault;
 pub mod formed;

@@ -1,4 +1,5 @@
 //! Expressions run on examples.
+#![tactic(auto)]
 
 #[cfg(test)]
 mod formed;

@@ -1,4 +1,6 @@
 //! A catalogue of dense and diagonal layouts that keeps their shapes and works the places out.
+#![tactic(auto)]
+
 pub mod grid;
 pub mod shapes;
 pub mod works;

@@ -1,5 +1,7 @@
 //! Names in expressions: which element of its layout a name reads, which names may stand, and what
 //! an expression is at the places of a source layout.
+#![tactic(auto)]
+
 mod asks;
 pub mod binary_table;
 pub mod check;

@@ -1,4 +1,6 @@
 //! Whether a new block would store into a place that an earlier block of its tensor has stored into.
+#![tactic(auto)]
+
 pub mod clash;
 mod interval;
 pub mod laws;

@@ -1,4 +1,6 @@
 //! Answers a design: as a report in plain words, or as facts for comparing.
+#![tactic(auto)]
+
 pub mod answer;
 pub mod facts;
 pub mod picture;

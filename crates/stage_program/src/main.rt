@@ -1,4 +1,6 @@
 //! Answers a design: `stage [--facts] [FILE]`, where no file, or `-`, is the standard input.
+#![tactic(auto)]
+
 use design::fault::Complaint;
 use report::run::{Form, answer_design};
 use std::{env, fs, io};

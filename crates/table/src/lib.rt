@@ -1,4 +1,6 @@
 //! A catalogue that reads its layouts from lent records and a lent pool of entries.
+#![tactic(auto)]
+
 mod read;
 pub mod record;
 pub mod rules;
