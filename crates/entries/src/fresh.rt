@@ -90,10 +90,10 @@ pub fn fresh_tables<C: Catalogue>(
     binaries: &[BinaryRecord],
     keys: &mut [TableKey],
 ) -> usize
-    requires source { source < length (layouts c.now) }
+    requires source { source < length (C.layouts c.now) }
     requires room { length nodes.now ≤ length keys.old }
     ensures count { result ≤ length nodes.now }
-    ensures keys { take result keys.new ≡ fresh_of (keys_of binaries.now) (map (needed_by (layouts c.now) variables.now (letters_of block) source) nodes.now) }
+    ensures keys { take result keys.new ≡ fresh_of (keys_of binaries.now) (map (needed_by (C.layouts c.now) variables.now (letters_of block) source) nodes.now) }
 {
     let mut count = 0;
     for i in 0..nodes.len() {

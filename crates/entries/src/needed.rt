@@ -16,9 +16,9 @@ use records::record::TableKey;
 
 /// Whether the source place's own number counts for a name with a layout.
 fn is_own<C: Catalogue>(c: &C, layout: usize, source: usize, permutation: &Permutation) -> bool
-    requires layout { layout < length (layouts c.now) }
-    requires source { source < length (layouts c.now) }
-    ensures { result ≡ own_number (slice_index_or (layouts c.now) layout blank) (slice_index_or (layouts c.now) source blank) (slots_of permutation.now) }
+    requires layout { layout < length (C.layouts c.now) }
+    requires source { source < length (C.layouts c.now) }
+    ensures { result ≡ own_number (slice_index_or (C.layouts c.now) layout blank) (slice_index_or (C.layouts c.now) source blank) (slots_of permutation.now) }
 {
     match needs_no_table(c, layout, source, permutation) {
         Ok(own) => own,
@@ -35,9 +35,9 @@ fn table_of_rank<C: Catalogue>(
     block: Letters,
     name: Letters,
 ) -> Option<TableKey>
-    requires layout { layout < length (layouts c.now) }
-    requires source { source < length (layouts c.now) }
-    ensures { result ≡ unless_own (own_number (slice_index_or (layouts c.now) layout blank) (slice_index_or (layouts c.now) source blank) (permutation_of rank (letters_of block) (letters_of name))) (record { layout = layout; source = source; permutation = packed (permutation_of rank (letters_of block) (letters_of name)) }) }
+    requires layout { layout < length (C.layouts c.now) }
+    requires source { source < length (C.layouts c.now) }
+    ensures { result ≡ unless_own (own_number (slice_index_or (C.layouts c.now) layout blank) (slice_index_or (C.layouts c.now) source blank) (permutation_of rank (letters_of block) (letters_of name))) (record { layout = layout; source = source; permutation = packed (permutation_of rank (letters_of block) (letters_of name)) }) }
 {
     let permutation = Permutation::new(rank, block, name);
     if is_own(c, layout, source, &permutation) {
@@ -59,8 +59,8 @@ fn table_of_name<C: Catalogue>(
     block: Letters,
     name: Letters,
 ) -> Option<TableKey>
-    requires { source < length (layouts c.now) }
-    ensures { result ≡ named_table (layouts c.now) source (letters_of block) (letters_of name) layout }
+    requires { source < length (C.layouts c.now) }
+    ensures { result ≡ named_table (C.layouts c.now) source (letters_of block) (letters_of name) layout }
 {
     match c.shape(layout) {
         Ok(shape) => match shape.kind {
@@ -82,8 +82,8 @@ fn table_of_variable<C: Catalogue>(
     variable: VariableNumber,
     name: Letters,
 ) -> Option<TableKey>
-    requires { source < length (layouts c.now) }
-    ensures { result ≡ variable_table (layouts c.now) source (letters_of block) (letters_of name) (described_by variables.now variable) }
+    requires { source < length (C.layouts c.now) }
+    ensures { result ≡ variable_table (C.layouts c.now) source (letters_of block) (letters_of name) (described_by variables.now variable) }
 {
     let record = described(variables, variable)?;
     let layout = record.layout?;
@@ -99,8 +99,8 @@ pub fn table_needed<C: Catalogue>(
     source: usize,
     node: Node,
 ) -> Option<TableKey>
-    requires { source < length (layouts c.now) }
-    ensures { result ≡ needed (layouts c.now) variables.now (letters_of block) source node }
+    requires { source < length (C.layouts c.now) }
+    ensures { result ≡ needed (C.layouts c.now) variables.now (letters_of block) source node }
 {
     match node {
         Node::Name {

@@ -13,11 +13,11 @@ use records::record::{BinaryRecord, TableKey};
 
 /// Appends a binary table, and answers where its entries end.
 fn write_table<C: Catalogue>(c: &C, key: TableKey, indices: &mut [i32], at: usize) -> usize
-    requires layout { key.layout < length (layouts c.now) }
-    requires source { key.source < length (layouts c.now) }
-    requires room { at + length (table_of (layouts c.now) key) ≤ length indices.old }
-    ensures end { result ≡ at + length (table_of (layouts c.now) key) }
-    ensures entries { indices.new ≡ written indices.old at (table_of (layouts c.now) key) }
+    requires layout { key.layout < length (C.layouts c.now) }
+    requires source { key.source < length (C.layouts c.now) }
+    requires room { at + length (table_of (C.layouts c.now) key) ≤ length indices.old }
+    ensures end { result ≡ at + length (table_of (C.layouts c.now) key) }
+    ensures entries { indices.new ≡ written indices.old at (table_of (C.layouts c.now) key) }
 {
     match to_binary_data_layout(c, key.layout, key.source, &key.permutation, indices, at) {
         Ok(end) => end,
@@ -42,12 +42,12 @@ pub fn write_tables<C: Catalogue>(
     indices: &mut [i32],
     at: usize,
 ) -> usize
-    requires known { (i : ℕ) → i < length keys.now → ((get_or keys.now i no_key).layout < length (layouts c.now)) × ((get_or keys.now i no_key).source < length (layouts c.now)) }
+    requires known { (i : ℕ) → i < length keys.now → ((get_or keys.now i no_key).layout < length (C.layouts c.now)) × ((get_or keys.now i no_key).source < length (C.layouts c.now)) }
     requires records { number + length keys.now ≤ length binaries.old }
-    requires room { at + length (tables (layouts c.now) keys.now) ≤ length indices.old }
-    ensures end { result ≡ at + length (tables (layouts c.now) keys.now) }
-    ensures entries { indices.new ≡ written indices.old at (tables (layouts c.now) keys.now) }
-    ensures records { binaries.new ≡ written binaries.old number (records_from (layouts c.now) at keys.now) }
+    requires room { at + length (tables (C.layouts c.now) keys.now) ≤ length indices.old }
+    ensures end { result ≡ at + length (tables (C.layouts c.now) keys.now) }
+    ensures entries { indices.new ≡ written indices.old at (tables (C.layouts c.now) keys.now) }
+    ensures records { binaries.new ≡ written binaries.old number (records_from (C.layouts c.now) at keys.now) }
 {
     let mut end = at;
     for i in 0..keys.len() {
@@ -82,13 +82,13 @@ pub fn write_places<C: Catalogue>(
     indices: &mut [i32],
     at: usize,
 ) -> usize
-    requires valid { AllValid (layouts c.now) }
-    requires known { layout < length (layouts c.now) }
-    requires rank { rank ≡ rank_of (slice_index_or (layouts c.now) layout blank) }
-    requires count { count ≡ count_of (slice_index_or (layouts c.now) layout blank) }
-    requires room { at + length (place_entries (slice_index_or (layouts c.now) layout blank)) ≤ length indices.old }
-    ensures end { result ≡ at + length (place_entries (slice_index_or (layouts c.now) layout blank)) }
-    ensures entries { indices.new ≡ written indices.old at (place_entries (slice_index_or (layouts c.now) layout blank)) }
+    requires valid { AllValid (C.layouts c.now) }
+    requires known { layout < length (C.layouts c.now) }
+    requires rank { rank ≡ rank_of (slice_index_or (C.layouts c.now) layout blank) }
+    requires count { count ≡ count_of (slice_index_or (C.layouts c.now) layout blank) }
+    requires room { at + length (place_entries (slice_index_or (C.layouts c.now) layout blank)) ≤ length indices.old }
+    ensures end { result ≡ at + length (place_entries (slice_index_or (C.layouts c.now) layout blank)) }
+    ensures entries { indices.new ≡ written indices.old at (place_entries (slice_index_or (C.layouts c.now) layout blank)) }
 {
     let mut end = at;
     for k in 0..count {

@@ -1,11 +1,10 @@
 -- One condition of a piecewise passed, and the last argument.
 use Rattle.std.proofs.Common.{◌≡◌, ℕ, zero, suc, ◌+◌, ◌-◌, ◌*◌, ◌/◌, ◌<◌, ◌≤◌, true, false, cond, List, [], ◌∷◌, length, get_or, drop, sym, refl, ap, ◌∙◌, inl, inr, le_of_suc-le-suc, arith}
-use lib.Ieee.{Float, nan, le, of_bits, binary64}
+use lib.Ieee.{Float, nan, le}
 use Rattle.std.specs.Float as Floats
 use Rattle.expression.specs.Values.{piecewise}
 use Rattle.std.proofs.lemmas.Bool.{cases_Bool}
 use Rattle.expression.specs.Laws.{Accepts, FirstConditionGives}
-use Rattle.expression.proofs.Literals.{zero_is}
 
 pub piece_step : (xs : List Float) (k : ℕ) → suc (suc k) < length xs → piecewise (drop k xs) ≡ cond (le Floats.float_zero (get_or xs k nan)) (get_or xs (suc k) nan) (piecewise (drop (suc (suc k)) xs))
 piece_step [] k h = absurd (omega arith)
@@ -23,17 +22,15 @@ piece_last (x ∷ xs) (suc k) h g =
     let e : suc (length xs) - 1 ≡ suc (length xs - 1) = omega arith in
     rw e (piece_last xs k (le_of_suc-le-suc h) (le_of_suc-le-suc g))
 
-pub piece_taken : (xs : List Float) (i : ℕ) → suc (suc (2 * i)) < length xs → le (of_bits binary64 0) (get_or xs (2 * i) nan) ≡ true → piecewise (drop (2 * i) xs) ≡ piecewise xs → get_or xs (2 * i + 1) nan ≡ piecewise xs
+pub piece_taken : (xs : List Float) (i : ℕ) → suc (suc (2 * i)) < length xs → le Floats.float_zero (get_or xs (2 * i) nan) ≡ true → piecewise (drop (2 * i) xs) ≡ piecewise xs → get_or xs (2 * i + 1) nan ≡ piecewise xs
 piece_taken xs i h t inv =
     let e : 2 * i + 1 ≡ suc (2 * i) = omega arith in
-    let u : le Floats.float_zero (get_or xs (2 * i) nan) ≡ true = ap (λ z. le z (get_or xs (2 * i) nan)) (sym zero_is) ∙ t in
-    ap (λ k. get_or xs k nan) e ∙ sym (piece_step xs (2 * i) h ∙ ap (λ b. cond b (get_or xs (suc (2 * i)) nan) (piecewise (drop (suc (suc (2 * i))) xs))) u) ∙ inv
+    ap (λ k. get_or xs k nan) e ∙ sym (piece_step xs (2 * i) h ∙ ap (λ b. cond b (get_or xs (suc (2 * i)) nan) (piecewise (drop (suc (suc (2 * i))) xs))) t) ∙ inv
 
-pub piece_passed : (xs : List Float) (i : ℕ) → suc (suc (2 * i)) < length xs → le (of_bits binary64 0) (get_or xs (2 * i) nan) ≡ false → piecewise (drop (2 * i) xs) ≡ piecewise xs → piecewise (drop (2 * (i + 1)) xs) ≡ piecewise xs
+pub piece_passed : (xs : List Float) (i : ℕ) → suc (suc (2 * i)) < length xs → le Floats.float_zero (get_or xs (2 * i) nan) ≡ false → piecewise (drop (2 * i) xs) ≡ piecewise xs → piecewise (drop (2 * (i + 1)) xs) ≡ piecewise xs
 piece_passed xs i h t inv =
     let e : 2 * (i + 1) ≡ suc (suc (2 * i)) = omega arith in
-    let u : le Floats.float_zero (get_or xs (2 * i) nan) ≡ false = ap (λ z. le z (get_or xs (2 * i) nan)) (sym zero_is) ∙ t in
-    ap (λ k. piecewise (drop k xs)) e ∙ sym (piece_step xs (2 * i) h ∙ ap (λ b. cond b (get_or xs (suc (2 * i)) nan) (piecewise (drop (suc (suc (2 * i))) xs))) u) ∙ inv
+    ap (λ k. piecewise (drop k xs)) e ∙ sym (piece_step xs (2 * i) h ∙ ap (λ b. cond b (get_or xs (suc (2 * i)) nan) (piecewise (drop (suc (suc (2 * i))) xs))) t) ∙ inv
 
 -- ---- the first condition that holds
 

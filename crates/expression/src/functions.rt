@@ -1,6 +1,7 @@
 //! Operators, and functions at their arguments.
 ghost use Rattle.std.specs.Prelude.{◌≡◌, ◌≤◌, [], ◌∷◌, length};
 ghost use Rattle.std.specs.Float.Ieee.{le, neg};
+ghost use Rattle.std.specs.Float.{float_zero};
 ghost use Rattle.std.specs.Option.{option_map};
 ghost use Rattle.expression.specs.Values.{binary as binary_value, unary as unary_value, heaviside as heaviside_value, logistic as logistic_value, piecewise as piecewise_value, called};
 
@@ -31,7 +32,7 @@ pub fn unary(operator: UnaryOperator, x: f64) -> f64
 
 /// Whether a condition holds.
 fn holds(condition: f64) -> bool
-    ensures* { do ⌜ result ≡ le (← (⟦0.0f64⟧).entry) condition ⌝ }
+    ensures { result ≡ le float_zero condition }
 {
     condition >= 0.0
 }
@@ -64,7 +65,7 @@ fn piecewise(arguments: &[f64]) -> f64
 
 /// By the host's exponential.
 fn sigmoid<H: Host>(host: &H, x: f64) -> Option<f64>
-    ensures { result ≡ option_map logistic_value (answers host.now 7 (neg x ∷ [])) }
+    ensures { result ≡ option_map logistic_value (H.answers host.now 7 (neg x ∷ [])) }
 {
     match host.ask(7, &[-x]) {
         Some(e) => Some(logistic(e)),
@@ -74,7 +75,7 @@ fn sigmoid<H: Host>(host: &H, x: f64) -> Option<f64>
 
 /// A function at its arguments: none where it has no argument, or the host has no value.
 pub fn call<H: Host>(host: &H, code: u8, arguments: &[f64]) -> Option<f64>
-    ensures { result ≡ called (answers host.now) code arguments.now }
+    ensures { result ≡ called (H.answers host.now) code arguments.now }
 {
     if arguments.len() == 0 {
         return None;

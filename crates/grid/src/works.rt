@@ -183,7 +183,7 @@ fn place_of(g: GridShape, number: usize) -> Index
 
 pub fn place_answer(g: GridShape, number: usize) -> (Index, bool)
     requires { sound g ≡ true }
-    ensures { result ≡ (if nat_lt number (places_count (grid_layout g)) then (index_of (at (grid_layout g) number), true) else index_of origin, false) }
+    ensures { result ≡ (if nat_lt number (places_count (grid_layout g)) then (index_of (at (grid_layout g) number), true) else (index_of origin, false)) }
 {
     if number < count_of(g) {
         (place_of(g, number), true)

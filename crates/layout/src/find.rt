@@ -33,7 +33,7 @@ pub fn find_nnz_index<C: Catalogue>(
     layout: usize,
     index: Index,
 ) -> Result<Option<usize>, LayoutFault>
-    ensures { result ≡ wide_asked (layouts c.now) layout index }
+    ensures { result ≡ wide_asked (C.layouts c.now) layout index }
 {
     let shape = c.shape(layout)?;
     match shape.kind {
@@ -53,7 +53,7 @@ fn same_shape(s: Shape, t: Shape) -> bool
 
 /// Whether the first `count` places of two layouts have the same indices.
 fn same_places<C: Catalogue>(c: &C, a: usize, b: usize, count: usize) -> bool
-    ensures { Decides result ((k : ℕ) → k < count → (place_asked (layouts c.now) a k).0 ≡ (place_asked (layouts c.now) b k).0) }
+    ensures { Decides result ((k : ℕ) → k < count → (place_asked (C.layouts c.now) a k).0 ≡ (place_asked (C.layouts c.now) b k).0) }
 {
     for k in 0..count {
         let (p, _) = c.place(a, k);
@@ -67,7 +67,7 @@ fn same_places<C: Catalogue>(c: &C, a: usize, b: usize, count: usize) -> bool
 
 /// Whether two layouts have the same kind, shape and places.
 pub fn eq_nonzeros<C: Catalogue>(c: &C, a: usize, b: usize) -> Result<bool, LayoutFault>
-    ensures { SameAsked (layouts c.now) a b result }
+    ensures { SameAsked (C.layouts c.now) a b result }
 {
     let known = c.count();
     if a >= known || b >= known {

@@ -23,7 +23,7 @@ fn scalar() -> Shape
 }
 
 pub(crate) fn shape_at<C: Catalogue>(c: &C, layout: usize) -> Shape
-    ensures { result ≡ shape_of (slice_index_or (layouts c.now) layout blank) }
+    ensures { result ≡ shape_of (slice_index_or (C.layouts c.now) layout blank) }
 {
     match c.shape(layout) {
         Ok(s) => s,
@@ -32,7 +32,7 @@ pub(crate) fn shape_at<C: Catalogue>(c: &C, layout: usize) -> Shape
 }
 
 pub(crate) fn shape_of<C: Catalogue>(c: &C, layout: Option<usize>) -> Shape
-    ensures { result ≡ shape_of (layout_of (layouts c.now) layout) }
+    ensures { result ≡ shape_of (layout_of (C.layouts c.now) layout) }
 {
     match layout {
         Some(n) => shape_at(c, n),
@@ -41,7 +41,7 @@ pub(crate) fn shape_of<C: Catalogue>(c: &C, layout: Option<usize>) -> Shape
 }
 
 fn strict_at<C: Catalogue>(c: &C, layout: usize, index: Index) -> Option<usize>
-    ensures { result ≡ strict (slice_index_or (layouts c.now) layout blank) index }
+    ensures { result ≡ strict (slice_index_or (C.layouts c.now) layout blank) index }
 {
     match c.number(layout, index) {
         Ok(o) => o,
@@ -50,7 +50,7 @@ fn strict_at<C: Catalogue>(c: &C, layout: usize, index: Index) -> Option<usize>
 }
 
 pub(crate) fn strict_of<C: Catalogue>(c: &C, layout: Option<usize>, index: Index) -> Option<usize>
-    ensures { result ≡ strict (layout_of (layouts c.now) layout) index }
+    ensures { result ≡ strict (layout_of (C.layouts c.now) layout) index }
 {
     match layout {
         Some(n) => strict_at(c, n, index),
@@ -59,7 +59,7 @@ pub(crate) fn strict_of<C: Catalogue>(c: &C, layout: Option<usize>, index: Index
 }
 
 pub(crate) fn wide_at<C: Catalogue>(c: &C, layout: usize, index: Index) -> Option<usize>
-    ensures { result ≡ wide (slice_index_or (layouts c.now) layout blank) index }
+    ensures { result ≡ wide (slice_index_or (C.layouts c.now) layout blank) index }
 {
     match find_nnz_index(c, layout, index) {
         Ok(o) => o,
@@ -68,7 +68,7 @@ pub(crate) fn wide_at<C: Catalogue>(c: &C, layout: usize, index: Index) -> Optio
 }
 
 pub(crate) fn wide_of<C: Catalogue>(c: &C, layout: Option<usize>, index: Index) -> Option<usize>
-    ensures { result ≡ wide (layout_of (layouts c.now) layout) index }
+    ensures { result ≡ wide (layout_of (C.layouts c.now) layout) index }
 {
     match layout {
         Some(n) => wide_at(c, n, index),
@@ -78,7 +78,7 @@ pub(crate) fn wide_of<C: Catalogue>(c: &C, layout: Option<usize>, index: Index) 
 
 /// The place with a number, as an index; zeros where there is none.
 pub(crate) fn place_at<C: Catalogue>(c: &C, layout: usize, number: usize) -> Index
-    ensures { result ≡ index_of (at (slice_index_or (layouts c.now) layout blank) number) }
+    ensures { result ≡ index_of (at (slice_index_or (C.layouts c.now) layout blank) number) }
 {
     let (p, _) = c.place(layout, number);
     p

@@ -37,9 +37,9 @@ fn entry_at<C: Catalogue>(
     source: usize,
     k: usize,
 ) -> i32
-    requires valid { AllValid (layouts c.now) }
-    requires rank { rank ≡ rank_of (slice_index_or (layouts c.now) layout blank) }
-    ensures { result ≡ entry_of (table_element (slice_index_or (layouts c.now) layout blank) slots.now (index_of (place_of (slice_index_or (layouts c.now) source blank) k))) }
+    requires valid { AllValid (C.layouts c.now) }
+    requires rank { rank ≡ rank_of (slice_index_or (C.layouts c.now) layout blank) }
+    ensures { result ≡ entry_of (table_element (slice_index_or (C.layouts c.now) layout blank) slots.now (index_of (place_of (slice_index_or (C.layouts c.now) source blank) k))) }
 {
     let x = place_at(c, source, k);
     table_entry(wide_at(c, layout, permuted(rank, slots, x)))
@@ -56,11 +56,11 @@ fn write_table<C: Catalogue>(
     table: &mut [i32],
     at: usize,
 )
-    requires valid { AllValid (layouts c.now) }
-    requires rank { rank ≡ rank_of (slice_index_or (layouts c.now) layout blank) }
-    requires counted { count ≡ count_of (slice_index_or (layouts c.now) source blank) }
+    requires valid { AllValid (C.layouts c.now) }
+    requires rank { rank ≡ rank_of (slice_index_or (C.layouts c.now) layout blank) }
+    requires counted { count ≡ count_of (slice_index_or (C.layouts c.now) source blank) }
     requires room { at + count ≤ length table.old }
-    ensures { table.new ≡ paste table.old at (binary_table (slice_index_or (layouts c.now) layout blank) (slice_index_or (layouts c.now) source blank) slots.now) count }
+    ensures { table.new ≡ paste table.old at (binary_table (slice_index_or (C.layouts c.now) layout blank) (slice_index_or (C.layouts c.now) source blank) slots.now) count }
 {
     for k in 0..count {
         table[at + k] = entry_at(c, layout, rank, slots, source, k);
@@ -84,7 +84,7 @@ pub fn to_binary_data_layout<C: Catalogue>(
     table: &mut [i32],
     at: usize,
 ) -> Result<usize, NamesFault>
-    ensures { PutFrom at (table_asked (layouts c.now) layout source (slots_of permutation.now) at (length table.old)) table.old table.new result }
+    ensures { PutFrom at (table_asked (C.layouts c.now) layout source (slots_of permutation.now) at (length table.old)) table.old table.new result }
 {
     // The count says that every layout is valid.
     let _ = c.count();
@@ -126,7 +126,7 @@ pub fn needs_no_table<C: Catalogue>(
     source: usize,
     permutation: &Permutation,
 ) -> Result<bool, LayoutFault>
-    ensures { NoTableAsked (layouts c.now) layout source (slots_of permutation.now) result }
+    ensures { NoTableAsked (C.layouts c.now) layout source (slots_of permutation.now) result }
 {
     let same = eq_nonzeros(c, layout, source)?;
     Ok(same & is_identity(permutation.meant()))

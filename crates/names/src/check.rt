@@ -58,7 +58,7 @@ fn letters_fit<C: Catalogue>(
     requires source { source_rank ≤ 4 }
     requires block { length block.now ≤ 4 }
     requires name { length name.now ≤ 4 }
-    ensures { result ≡ fitting (layout_of (layouts c.now) layout) source_rank block.now name.now }
+    ensures { result ≡ fitting (layout_of (C.layouts c.now) layout) source_rank block.now name.now }
 {
     let shape = shape_of(c, layout);
     match shape.kind {
@@ -82,7 +82,7 @@ fn check_variable<C: Catalogue>(
     requires source { source_rank ≤ 4 }
     requires block { length block.now ≤ 4 }
     requires name { length name.now ≤ 4 }
-    ensures { result ≡ variable_check constant block.now source_rank i name.now ready (Found (variable_of (layouts c.now) v)) }
+    ensures { result ≡ variable_check constant block.now source_rank i name.now ready (Found (variable_of (C.layouts c.now) v)) }
 {
     if !ready {
         return Err(ExpressionFault::NotReady { node: i });
@@ -111,7 +111,7 @@ fn check_name<C: Catalogue>(
 ) -> Result<(), ExpressionFault>
     requires source { source_rank ≤ 4 }
     requires block { length block.now ≤ 4 }
-    ensures { result ≡ variable_check constant block.now source_rank i (letters_of letters) (ready_but opened variable) (environment (layouts c.now) variables.now variable) }
+    ensures { result ≡ variable_check constant block.now source_rank i (letters_of letters) (ready_but opened variable) (environment (C.layouts c.now) variables.now variable) }
 {
     let ready = is_ready(opened, variable);
     match described(variables, variable) {
@@ -142,7 +142,7 @@ fn check_node<C: Catalogue>(
 ) -> Result<(), ExpressionFault>
     requires source { source_rank ≤ 4 }
     requires block { length block.now ≤ 4 }
-    ensures { result ≡ node_check (environment (layouts c.now) variables.now) (ready_but opened) constant block.now source_rank i node }
+    ensures { result ≡ node_check (environment (C.layouts c.now) variables.now) (ready_but opened) constant block.now source_rank i node }
 {
     match node {
         Node::Number(_) => Ok(()),
@@ -178,7 +178,7 @@ fn check_names<C: Catalogue>(
 ) -> Result<(), ExpressionFault>
     requires source { source_rank ≤ 4 }
     requires block { length block.now ≤ 4 }
-    ensures { result ≡ names_check (environment (layouts c.now) variables.now) (ready_but opened) constant block.now source_rank 0 nodes.now }
+    ensures { result ≡ names_check (environment (C.layouts c.now) variables.now) (ready_but opened) constant block.now source_rank 0 nodes.now }
 {
     for i in 0..nodes.len() {
         check_node(
@@ -207,7 +207,7 @@ pub fn expression_fault<C: Catalogue>(
     source: usize,
     nodes: &[Node],
 ) -> Result<(), ExpressionFault>
-    ensures { result ≡ checked (environment (layouts c.now) variables.now) (ready_but opened) constant (letters_of letters) (rank_of (slice_index_or (layouts c.now) source blank)) nodes.now }
+    ensures { result ≡ checked (environment (C.layouts c.now) variables.now) (ready_but opened) constant (letters_of letters) (rank_of (slice_index_or (C.layouts c.now) source blank)) nodes.now }
 {
     if !is_well_formed(nodes) {
         return Err(ExpressionFault::Malformed);

@@ -80,8 +80,8 @@ fn dense_element_of<C: Catalogue>(
     x: Index,
     name: &[u8],
 ) -> Option<usize>
-    requires { lengths ≡ (shape_of (layout_of (layouts c.now) layout)).lengths }
-    ensures { result ≡ dense_element (layout_of (layouts c.now) layout) block.now x name.now }
+    requires { lengths ≡ (shape_of (layout_of (C.layouts c.now) layout)).lengths }
+    ensures { result ≡ dense_element (layout_of (C.layouts c.now) layout) block.now x name.now }
 {
     if name.len() == 0 {
         return Some(0);
@@ -98,10 +98,10 @@ fn table_element_of<C: Catalogue>(
     x: Index,
     name: &[u8],
 ) -> Option<usize>
-    requires rank { rank ≡ rank_of (layout_of (layouts c.now) layout) }
+    requires rank { rank ≡ rank_of (layout_of (C.layouts c.now) layout) }
     requires block { length block.now ≤ 4 }
     requires name { length name.now ≤ 4 }
-    ensures { result ≡ table_element (layout_of (layouts c.now) layout) (permutation_of rank block.now name.now) x }
+    ensures { result ≡ table_element (layout_of (C.layouts c.now) layout) (permutation_of rank block.now name.now) x }
 {
     let p = letters_permuted(rank, block, name);
     wide_of(c, layout, permuted(rank, p.meant(), x))
@@ -117,7 +117,7 @@ pub(crate) fn element<C: Catalogue>(
 ) -> Option<usize>
     requires block { length block.now ≤ 4 }
     requires name { length name.now ≤ 4 }
-    ensures { result ≡ element_of (layout_of (layouts c.now) layout) block.now x name.now }
+    ensures { result ≡ element_of (layout_of (C.layouts c.now) layout) block.now x name.now }
 {
     let shape = shape_of(c, layout);
     match shape.kind {

@@ -30,10 +30,10 @@ fn value_of_node<C: Catalogue, H: Host>(
     node: Node,
     taken: &[f64],
 ) -> Option<f64>
-    requires valid { AllValid (layouts c.now) }
+    requires valid { AllValid (C.layouts c.now) }
     requires block { length block.now ≤ 4 }
     requires taken { length taken.now ≡ takes node }
-    ensures { result ≡ node_value (answers host.now) (read_by (layouts c.now) variables.now constants.now block.now x) node taken.now }
+    ensures { result ≡ node_value (H.answers host.now) (read_by (C.layouts c.now) variables.now constants.now block.now x) node taken.now }
 {
     match node {
         Node::Number(value) => Some(value),
@@ -56,10 +56,10 @@ fn run<C: Catalogue, H: Host>(
     x: Index,
     nodes: &[Node],
 ) -> Result<f64, usize>
-    requires valid { AllValid (layouts c.now) }
+    requires valid { AllValid (C.layouts c.now) }
     requires block { length block.now ≤ 4 }
     requires formed { well_formed nodes.now ≡ true }
-    ensures { result ≡ evaluated (node_value (answers host.now) (read_by (layouts c.now) variables.now constants.now block.now x)) nodes.now }
+    ensures { result ≡ evaluated (node_value (H.answers host.now) (read_by (C.layouts c.now) variables.now constants.now block.now x)) nodes.now }
 {
     let mut stack = [0.0; 32];
     let mut depth = 0;
@@ -98,10 +98,10 @@ pub(crate) fn evaluate_checked<C: Catalogue, H: Host>(
     number: usize,
     nodes: &[Node],
 ) -> Result<f64, ExpressionFault>
-    requires valid { AllValid (layouts c.now) }
+    requires valid { AllValid (C.layouts c.now) }
     requires block { length block.now ≤ 4 }
     requires formed { well_formed nodes.now ≡ true }
-    ensures { result ≡ value_by (answers host.now) (layouts c.now) variables.now constants.now block.now source nodes.now number }
+    ensures { result ≡ value_by (H.answers host.now) (C.layouts c.now) variables.now constants.now block.now source nodes.now number }
 {
     let x = place_at(c, source, number);
     match run(c, host, variables, constants, block, x, nodes) {
@@ -123,7 +123,7 @@ pub fn evaluate_at<C: Catalogue, H: Host>(
     number: usize,
     nodes: &[Node],
 ) -> Result<f64, ExpressionFault>
-    ensures { result ≡ outcome_of (answers host.now) (layouts c.now) variables.now opened constants.now letters source nodes.now number }
+    ensures { result ≡ outcome_of (H.answers host.now) (C.layouts c.now) variables.now opened constants.now letters source nodes.now number }
 {
     // The count says that every layout is valid.
     let _ = c.count();

@@ -28,11 +28,11 @@ fn write_values<C: Catalogue, H: Host>(
     nodes: &[Node],
     out: &mut [f64],
 ) -> Result<(), ExpressionFault>
-    requires valid { AllValid (layouts c.now) }
+    requires valid { AllValid (C.layouts c.now) }
     requires block { length block.now ≤ 4 }
     requires formed { well_formed nodes.now ≡ true }
     requires room { count ≤ length out.old }
-    ensures { PutInFront (gathered (value_by (answers host.now) (layouts c.now) variables.now constants.now block.now source nodes.now) count) out.old out.new result }
+    ensures { PutInFront (gathered (value_by (H.answers host.now) (C.layouts c.now) variables.now constants.now block.now source nodes.now) count) out.old out.new result }
 {
     for k in 0..count {
         let value = evaluate_checked(c, host, variables, constants, block, source, k, nodes)?;
@@ -55,7 +55,7 @@ pub fn evaluate_places<C: Catalogue, H: Host>(
     nodes: &[Node],
     out: &mut [f64],
 ) -> Result<(), NamesFault>
-    ensures { PutInFront (outcomes_of (answers host.now) (layouts c.now) variables.now opened constants.now letters source nodes.now (length out.old)) out.old out.new result }
+    ensures { PutInFront (outcomes_of (H.answers host.now) (C.layouts c.now) variables.now opened constants.now letters source nodes.now (length out.old)) out.old out.new result }
 {
     // The count says that every layout is valid.
     let _ = c.count();

@@ -34,10 +34,10 @@ fn read_record<C: Catalogue>(
     name: &[u8],
     v: VariableRecord,
 ) -> f64
-    requires valid { AllValid (layouts c.now) }
+    requires valid { AllValid (C.layouts c.now) }
     requires block { length block.now ≤ 4 }
     requires name { length name.now ≤ 4 }
-    ensures { result ≡ picked (values_of (layouts c.now) constants.now v) (element_of (layout_of (layouts c.now) v.layout) block.now x name.now) }
+    ensures { result ≡ picked (values_of (C.layouts c.now) constants.now v) (element_of (layout_of (C.layouts c.now) v.layout) block.now x name.now) }
 {
     match element(c, v.layout, block, x, name) {
         Some(n) => constant_at(constants, v.offset, n),
@@ -55,9 +55,9 @@ pub(crate) fn read_name<C: Catalogue>(
     variable: VariableNumber,
     letters: Letters,
 ) -> f64
-    requires valid { AllValid (layouts c.now) }
+    requires valid { AllValid (C.layouts c.now) }
     requires block { length block.now ≤ 4 }
-    ensures { result ≡ read_by (layouts c.now) variables.now constants.now block.now x variable letters }
+    ensures { result ≡ read_by (C.layouts c.now) variables.now constants.now block.now x variable letters }
 {
     match record_of(variables, variable) {
         Some(v) => read_record(c, constants, block, x, meant(&letters), v),

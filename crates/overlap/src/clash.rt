@@ -33,9 +33,9 @@ fn entry_clash<C: Catalogue>(
     indices: &[i32],
     tensor: usize,
 ) -> Option<usize>
-    requires fitting { Fitting (layouts catalogue.now) new }
+    requires fitting { Fitting (C.layouts catalogue.now) new }
     requires orderly { Orderly entry.read indices.now }
-    ensures { result ≡ (if nat_eq entry.tensor tensor then first_shared (goes (layouts catalogue.now) new) new.count (destination entry.read indices.now) entry.read.via else None) }
+    ensures { result ≡ (if nat_eq entry.tensor tensor then first_shared (goes (C.layouts catalogue.now) new) new.count (destination entry.read indices.now) entry.read.via else None) }
 {
     if entry.tensor == tensor {
         clash_with(catalogue, new, entry.read, indices)
@@ -52,9 +52,9 @@ fn clash_among<C: Catalogue>(
     indices: &[i32],
     tensor: usize,
 ) -> Option<usize>
-    requires fitting { Fitting (layouts catalogue.now) new }
+    requires fitting { Fitting (C.layouts catalogue.now) new }
     requires orderly { All (λ e. Orderly e.read indices.now) blocks.now }
-    ensures { result ≡ first_that (λ k. stored_at blocks.now indices.now tensor (goes (layouts catalogue.now) new k)) new.count }
+    ensures { result ≡ first_that (λ k. stored_at blocks.now indices.now tensor (goes (C.layouts catalogue.now) new k)) new.count }
 {
     let mut first = None;
     for i in 0..blocks.len() {
@@ -79,12 +79,12 @@ pub fn first_clash<C: Catalogue>(
     start: Index,
     target: usize,
 ) -> Option<usize>
-    requires valid { AllValid (layouts catalogue.now) }
-    requires via { via < length (layouts catalogue.now) }
-    requires target { target < length (layouts catalogue.now) }
-    requires lawful { (source : ℕ) × LawfulIn (layouts catalogue.now) source via start target translation }
+    requires valid { AllValid (C.layouts catalogue.now) }
+    requires via { via < length (C.layouts catalogue.now) }
+    requires target { target < length (C.layouts catalogue.now) }
+    requires lawful { (source : ℕ) × LawfulIn (C.layouts catalogue.now) source via start target translation }
     requires orderly { All (λ e. Orderly e.read indices.now) blocks.now }
-    ensures { result ≡ first_clash blocks.now indices.now tensor (slice_index_or (layouts catalogue.now) via blank) start (slice_index_or (layouts catalogue.now) target blank) }
+    ensures { result ≡ first_clash blocks.now indices.now tensor (slice_index_or (C.layouts catalogue.now) via blank) start (slice_index_or (C.layouts catalogue.now) target blank) }
 {
     let new = NewBlock {
         to: translation.to,

@@ -30,9 +30,9 @@ fn merged<C: Catalogue>(
     block: BlockRecord,
     indices: &[i32],
 ) -> Option<usize>
-    requires fitting { Fitting (layouts catalogue.now) new }
+    requires fitting { Fitting (C.layouts catalogue.now) new }
     requires orderly { Orderly block indices.now }
-    ensures { result ≡ first_shared (goes (layouts catalogue.now) new) new.count (destination_of block indices.now) block.via }
+    ensures { result ≡ first_shared (goes (C.layouts catalogue.now) new) new.count (destination_of block indices.now) block.via }
 {
     let mut j = 0;
     for k in 0..new.count {
@@ -55,10 +55,10 @@ fn ends_apart<C: Catalogue>(
     block: BlockRecord,
     indices: &[i32],
 ) -> bool
-    requires fitting { Fitting (layouts catalogue.now) new }
+    requires fitting { Fitting (C.layouts catalogue.now) new }
     requires orderly { Orderly block indices.now }
     requires some { 0 < block.via }
-    ensures { Decides result ((goes (layouts catalogue.now) new (new.count - 1) < destination_of block indices.now 0) ⊎ (destination_of block indices.now (block.via - 1) < goes (layouts catalogue.now) new 0)) }
+    ensures { Decides result ((goes (C.layouts catalogue.now) new (new.count - 1) < destination_of block indices.now 0) ⊎ (destination_of block indices.now (block.via - 1) < goes (C.layouts catalogue.now) new 0)) }
 {
     lie_apart(
         new_place(catalogue, new, 0),
@@ -75,9 +75,9 @@ fn listed_clash<C: Catalogue>(
     block: BlockRecord,
     indices: &[i32],
 ) -> Option<usize>
-    requires fitting { Fitting (layouts catalogue.now) new }
+    requires fitting { Fitting (C.layouts catalogue.now) new }
     requires orderly { Orderly block indices.now }
-    ensures { result ≡ first_shared (goes (layouts catalogue.now) new) new.count (destination_of block indices.now) block.via }
+    ensures { result ≡ first_shared (goes (C.layouts catalogue.now) new) new.count (destination_of block indices.now) block.via }
 {
     if block.via == 0 || ends_apart(catalogue, new, block, indices) {
         return None;
@@ -92,9 +92,9 @@ pub(crate) fn clash_with<C: Catalogue>(
     block: BlockRecord,
     indices: &[i32],
 ) -> Option<usize>
-    requires fitting { Fitting (layouts catalogue.now) new }
+    requires fitting { Fitting (C.layouts catalogue.now) new }
     requires orderly { Orderly block indices.now }
-    ensures { result ≡ first_shared (goes (layouts catalogue.now) new) new.count (destination_of block indices.now) block.via }
+    ensures { result ≡ first_shared (goes (C.layouts catalogue.now) new) new.count (destination_of block indices.now) block.via }
 {
     match (new.to, block.to) {
         (TranslationTo::Contiguous { start: a, .. }, TranslationTo::Contiguous { start: b, .. }) =>

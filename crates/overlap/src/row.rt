@@ -22,9 +22,9 @@ pub(crate) struct NewBlock {
 
 /// Where via place k of a new block goes.
 pub(crate) fn new_place<C: Catalogue>(catalogue: &C, new: NewBlock, k: usize) -> usize
-    requires fitting { Fitting (layouts catalogue.now) new }
+    requires fitting { Fitting (C.layouts catalogue.now) new }
     requires there { k < new.count }
-    ensures { result ≡ goes (layouts catalogue.now) new k }
+    ensures { result ≡ goes (C.layouts catalogue.now) new k }
 {
     match new.to {
         TranslationTo::Contiguous { start, .. } => start + k,

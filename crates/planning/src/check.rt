@@ -68,7 +68,7 @@ fn check_expression<C: Catalogue>(
     call: BlockCall,
     nodes: &[Node],
 ) -> Result<(), BlockFault>
-    ensures { result ≡ names_checked (layouts c.now) variables.now target call nodes.now }
+    ensures { result ≡ names_checked (C.layouts c.now) variables.now target call nodes.now }
 {
     let constant = is_constant(target.class);
     expression_fault(
@@ -94,11 +94,11 @@ fn find_clash<C: Catalogue>(
     call: BlockCall,
     translation: Translation,
 ) -> Option<usize>
-    requires valid { AllValid (layouts c.now) }
-    requires accepted { translated (layouts c.now) call.source call.via call.start target.layout ≡ Ok translation }
-    requires lawful { LawfulIn (layouts c.now) call.source call.via call.start target.layout translation }
+    requires valid { AllValid (C.layouts c.now) }
+    requires accepted { translated (C.layouts c.now) call.source call.via call.start target.layout ≡ Ok translation }
+    requires lawful { LawfulIn (C.layouts c.now) call.source call.via call.start target.layout translation }
     requires orderly { All (λ e. Orderly e.read indices.now) blocks.now }
-    ensures { result ≡ first_clash_of blocks.now indices.now number (slice_index_or (layouts c.now) call.via blank) call.start (slice_index_or (layouts c.now) target.layout blank) }
+    ensures { result ≡ first_clash_of blocks.now indices.now number (slice_index_or (C.layouts c.now) call.via blank) call.start (slice_index_or (C.layouts c.now) target.layout blank) }
 {
     first_clash(
         c,
@@ -125,9 +125,9 @@ pub fn check_block<C: Catalogue>(
     nodes: &[Node],
 ) -> Result<Translation, BlockFault>
     requires { All (λ e. Orderly e.read indices.now) blocks.now }
-    ensures is { (n : Counts) (ts : List TensorRecord) (ks : List BinaryRecord) (cs : List Float) → result ≡ block_checked (layouts c.now) (holding n ts blocks.now variables.now ks cs indices.now) number target call nodes.now }
-    ensures lawful { IfOk result (LawfulIn (layouts c.now) call.source call.via call.start target.layout) }
-    ensures valid { AllValid (layouts c.now) }
+    ensures is { (n : Counts) (ts : List TensorRecord) (ks : List BinaryRecord) (cs : List Float) → result ≡ block_checked (C.layouts c.now) (holding n ts blocks.now variables.now ks cs indices.now) number target call nodes.now }
+    ensures lawful { IfOk result (LawfulIn (C.layouts c.now) call.source call.via call.start target.layout) }
+    ensures valid { AllValid (C.layouts c.now) }
 {
     // The count says that every layout is valid.
     let _ = c.count();

@@ -79,7 +79,7 @@ fn open_as<C: Catalogue>(
     layout: usize,
     class: Option<Class>,
 ) -> Result<TensorRecord, StageFault>
-    ensures { result ≡ opened_as (layouts c.now) n room layout class }
+    ensures { result ≡ opened_as (C.layouts c.now) n room layout class }
 {
     let Some(class) = class else {
         return Err(StageFault::Unknown);
@@ -107,7 +107,7 @@ pub fn plan_opening<C: Catalogue>(
     layout: usize,
     class: u8,
 ) -> Result<TensorRecord, StageFault>
-    ensures { result ≡ OpeningOf (layouts c.now) n room layout class }
+    ensures { result ≡ OpeningOf (C.layouts c.now) n room layout class }
 {
     if is_opening_short(n, room) {
         return Err(StageFault::Short);

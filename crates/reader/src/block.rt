@@ -14,7 +14,7 @@ pub const INDEX_LIMIT: usize = 4_194_304;
 
 /// How many places a layout has; one that does not exist counts as a scalar.
 fn place_count<C: Catalogue>(catalogue: &C, layout: usize) -> usize
-    ensures { result ≡ count (slice_index_or (layouts catalogue.now) layout blank) }
+    ensures { result ≡ count (slice_index_or (C.layouts catalogue.now) layout blank) }
 {
     match catalogue.shape(layout) {
         Ok(shape) => shape.count,
@@ -33,9 +33,9 @@ impl BlockRecord {
         table: &mut [i32],
         at: usize,
     ) -> Result<BlockRecord, TranslationFault>
-        ensures answer { result ≡ recorded (layouts catalogue.now) source via start target (length table.old) at }
-        ensures table { table.new ≡ table_after result (layouts catalogue.now) source via start target table.old at }
-        ensures follows { IfOk result (λ b. Follows (slice_index_or (layouts catalogue.now) source blank) (slice_index_or (layouts catalogue.now) via blank) start (slice_index_or (layouts catalogue.now) target blank) b table.new) }
+        ensures answer { result ≡ recorded (C.layouts catalogue.now) source via start target (length table.old) at }
+        ensures table { table.new ≡ table_after result (C.layouts catalogue.now) source via start target table.old at }
+        ensures follows { IfOk result (λ b. Follows (slice_index_or (C.layouts catalogue.now) source blank) (slice_index_or (C.layouts catalogue.now) via blank) start (slice_index_or (C.layouts catalogue.now) target blank) b table.new) }
     {
         let t = Translation::new(catalogue, source, via, start, target)?;
         if !has_room(table.len().min(INDEX_LIMIT), at, t.data_len()) {

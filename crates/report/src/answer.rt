@@ -32,21 +32,21 @@ fn lookup_answer(r: Result<Option<usize>, LayoutFault>) -> Answer
 
 /// The wide lookup of an index.
 pub fn find_answer<C: Catalogue>(c: &C, layout: usize, index: Index) -> Answer
-    ensures { result ≡ looked_up (wide_asked (layouts c.now) layout index) }
+    ensures { result ≡ looked_up (wide_asked (C.layouts c.now) layout index) }
 {
     lookup_answer(find_nnz_index(c, layout, index))
 }
 
 /// The strict lookup of an index.
 pub fn number_answer<C: Catalogue>(c: &C, layout: usize, index: Index) -> Answer
-    ensures { result ≡ looked_up (number_asked (layouts c.now) layout index) }
+    ensures { result ≡ looked_up (number_asked (C.layouts c.now) layout index) }
 {
     lookup_answer(c.number(layout, index))
 }
 
 /// The place with a number.
 pub fn place_answer<C: Catalogue>(c: &C, layout: usize, number: usize) -> Answer
-    ensures { result ≡ place_told (layouts c.now) layout number }
+    ensures { result ≡ place_told (C.layouts c.now) layout number }
 {
     match c.shape(layout) {
         Ok(shape) => {

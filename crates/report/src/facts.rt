@@ -41,8 +41,8 @@ fn put_lengths(out: &mut String, lengths: &[usize], rank: usize) -> fmt::Result
 }
 
 fn put_layout<C: Catalogue>(out: &mut String, c: &C, layout: usize) -> fmt::Result
-    requires { layout < length (layouts c.now) }
-    ensures { OnOk result (string_bytes out.new ≡ string_bytes out.old ++ layout_fact_of (layouts c.now) layout) }
+    requires { layout < length (C.layouts c.now) }
+    ensures { OnOk result (string_bytes out.new ≡ string_bytes out.old ++ layout_fact_of (C.layouts c.now) layout) }
 {
     match c.shape(layout) {
         Ok(shape) => put_shape(out, layout, shape),
@@ -62,7 +62,7 @@ fn put_answer(out: &mut String, answer: Answer) -> fmt::Result
 }
 
 fn put_asked<C: Catalogue>(out: &mut String, heap: Global, c: &C, ask: Ask) -> fmt::Result
-    ensures { OnOk result (string_bytes out.new ≡ string_bytes out.old ++ asked_fact (layouts c.now) ask) }
+    ensures { OnOk result (string_bytes out.new ≡ string_bytes out.old ++ asked_fact (C.layouts c.now) ask) }
 {
     match ask {
         Ask::Find { layout, entries } => put_answer(out, find_answer(c, layout, entries.index)),
@@ -95,7 +95,7 @@ fn put_question<C: Catalogue>(
     c: &C,
     question: Question,
 ) -> fmt::Result
-    ensures { OnOk result (string_bytes out.new ≡ string_bytes out.old ++ question_fact (layouts c.now) question.entry) }
+    ensures { OnOk result (string_bytes out.new ≡ string_bytes out.old ++ question_fact (C.layouts c.now) question.entry) }
 {
     put_words(out, question)?;
     write!(out, "-> ")?;
@@ -110,7 +110,7 @@ pub fn put_facts<C: Catalogue>(
     c: &C,
     questions: &[Question],
 ) -> fmt::Result
-    ensures { OnOk result (string_bytes out.new ≡ string_bytes out.old ++ facts_of (layouts c.now) questions.now) }
+    ensures { OnOk result (string_bytes out.new ≡ string_bytes out.old ++ facts_of (C.layouts c.now) questions.now) }
 {
     for layout in 0..c.count() {
         put_layout(out, c, layout)?;

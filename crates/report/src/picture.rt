@@ -20,7 +20,7 @@ const MOST_PLACES: usize = 32;
 fn cell<C: Catalogue>(c: &C, layout: usize, rank: usize, row: usize, column: usize) -> Option<usize>
     requires rows { row < 16 }
     requires columns { column < 16 }
-    ensures { result ≡ found (number_asked (layouts c.now) layout (cell_index rank row column)) }
+    ensures { result ≡ found (number_asked (C.layouts c.now) layout (cell_index rank row column)) }
 {
     let index = if rank < 2 {
         [column as i64, 0, 0, 0]

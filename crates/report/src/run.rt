@@ -35,7 +35,7 @@ fn check_entries<'a, C: Catalogue>(
     layout: usize,
     entries: Entries,
 ) -> Result<(), Fault<'a>>
-    ensures { MatchResult result (λ _. layout < length (layouts c.now) → entries.count ≡ rank (slice_index_or (layouts c.now) layout blank)) (λ _. (layout < length (layouts c.now) → entries.count ≡ rank (slice_index_or (layouts c.now) layout blank)) → ⊥) }
+    ensures { MatchResult result (λ _. layout < length (C.layouts c.now) → entries.count ≡ rank (slice_index_or (C.layouts c.now) layout blank)) (λ _. (layout < length (C.layouts c.now) → entries.count ≡ rank (slice_index_or (C.layouts c.now) layout blank)) → ⊥) }
 {
     match c.shape(layout) {
         Ok(shape) => {
@@ -55,7 +55,7 @@ fn check_entries<'a, C: Catalogue>(
 
 /// Whether a question gives an entry for each axis, where its layout exists.
 fn check_question<'a, C: Catalogue>(c: &C, question: Question<'a>) -> Result<(), Fault<'a>>
-    ensures { MatchResult result (λ _. Matched (layouts c.now) question.entry.ask) (λ _. Matched (layouts c.now) question.entry.ask → ⊥) }
+    ensures { MatchResult result (λ _. Matched (C.layouts c.now) question.entry.ask) (λ _. Matched (C.layouts c.now) question.entry.ask → ⊥) }
 {
     match question.ask {
         Ask::Find { layout, entries } => check_entries(c, question.line, layout, entries),
@@ -81,7 +81,7 @@ fn put_answers<'a, C: Catalogue>(
     design: &Design<'a>,
     form: Form,
 ) -> Result<(), Fault<'a>>
-    ensures { OnOk result (Told form (layouts c.now) design.now.questions.items (string_bytes out.old) (string_bytes out.new)) }
+    ensures { OnOk result (Told form (C.layouts c.now) design.now.questions.items (string_bytes out.old) (string_bytes out.new)) }
 {
     for question in design.questions.iter() {
         check_question(c, *question)?;

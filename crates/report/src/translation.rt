@@ -107,11 +107,11 @@ pub fn entries_of<C: Catalogue>(
     start: Index,
     target: usize,
 ) -> Result<Vec<i32>, AllocError>
-    requires source { source < length (layouts c.now) }
-    requires via { via < length (layouts c.now) }
-    requires target { target < length (layouts c.now) }
-    requires long { length (entries_between (layouts c.now) t source via start target) ≡ data_count t }
-    ensures { IfOk result (λ v. v.items ≡ entries_between (layouts c.now) t source via start target) }
+    requires source { source < length (C.layouts c.now) }
+    requires via { via < length (C.layouts c.now) }
+    requires target { target < length (C.layouts c.now) }
+    requires long { length (entries_between (C.layouts c.now) t source via start target) ≡ data_count t }
+    ensures { IfOk result (λ v. v.items ≡ entries_between (C.layouts c.now) t source via start target) }
 {
     let mut table = Vec::from_elem(heap, 0, t.data_len())?;
     // The table has as many entries as there are, so this refuses nothing.
@@ -130,11 +130,11 @@ fn put_translated<C: Catalogue>(
     start: Index,
     target: usize,
 ) -> fmt::Result
-    requires source { source < length (layouts c.now) }
-    requires via { via < length (layouts c.now) }
-    requires target { target < length (layouts c.now) }
-    requires long { length (entries_between (layouts c.now) t source via start target) ≡ data_count t }
-    ensures { OnOk result (string_bytes out.new ≡ string_bytes out.old ++ trans_fact (layouts c.now) source via start target (Ok t)) }
+    requires source { source < length (C.layouts c.now) }
+    requires via { via < length (C.layouts c.now) }
+    requires target { target < length (C.layouts c.now) }
+    requires long { length (entries_between (C.layouts c.now) t source via start target) ≡ data_count t }
+    ensures { OnOk result (string_bytes out.new ≡ string_bytes out.old ++ trans_fact (C.layouts c.now) source via start target (Ok t)) }
 {
     let Ok(entries) = entries_of(heap, c, t, source, via, start, target) else {
         return Err(fmt::Error);
@@ -157,7 +157,7 @@ pub fn put_trans<C: Catalogue>(
     start: Index,
     target: usize,
 ) -> fmt::Result
-    ensures { OnOk result (string_bytes out.new ≡ string_bytes out.old ++ trans_told (layouts c.now) source via start target) }
+    ensures { OnOk result (string_bytes out.new ≡ string_bytes out.old ++ trans_told (C.layouts c.now) source via start target) }
 {
     match Translation::new(c, source, via, start, target) {
         Ok(t) => put_translated(out, heap, c, t, source, via, start, target),
@@ -174,10 +174,10 @@ fn put_made<C: Catalogue>(
     source: usize,
     via: usize,
 ) -> fmt::Result
-    requires source { source < length (layouts c.now) }
-    requires via { via < length (layouts c.now) }
-    requires long { length (entries_between (layouts c.now) t source via origin_index via) ≡ data_count t }
-    ensures { OnOk result (string_bytes out.new ≡ string_bytes out.old ++ (kind_fact t.from ++ (codes " ranges " ++ ranges_fact (entries_between (layouts c.now) t source via origin_index via)))) }
+    requires source { source < length (C.layouts c.now) }
+    requires via { via < length (C.layouts c.now) }
+    requires long { length (entries_between (C.layouts c.now) t source via origin_index via) ≡ data_count t }
+    ensures { OnOk result (string_bytes out.new ≡ string_bytes out.old ++ (kind_fact t.from ++ (codes " ranges " ++ ranges_fact (entries_between (C.layouts c.now) t source via origin_index via)))) }
 {
     let Ok(entries) = entries_of(heap, c, t, source, via, [0, 0, 0, 0], via) else {
         return Err(fmt::Error);
@@ -189,8 +189,8 @@ fn put_made<C: Catalogue>(
 
 /// How many places a layout has, which are at most 65,536.
 fn place_count<C: Catalogue>(c: &C, layout: usize) -> u32
-    requires { layout < length (layouts c.now) }
-    ensures { result ≡ places_of (slice_index_or (layouts c.now) layout blank) }
+    requires { layout < length (C.layouts c.now) }
+    ensures { result ≡ places_of (slice_index_or (C.layouts c.now) layout blank) }
 {
     // What is counted is valid.
     let _ = c.count();
@@ -208,7 +208,7 @@ pub fn put_from<C: Catalogue>(
     source: usize,
     via: usize,
 ) -> fmt::Result
-    ensures { OnOk result (string_bytes out.new ≡ string_bytes out.old ++ from_told (layouts c.now) source via) }
+    ensures { OnOk result (string_bytes out.new ≡ string_bytes out.old ++ from_told (C.layouts c.now) source via) }
 {
     match TranslationFrom::new(c, source, via) {
         Ok(from) => {

@@ -142,10 +142,10 @@ fn put_translated<C: Catalogue>(
     start: Index,
     target: usize,
 ) -> fmt::Result
-    requires source { source < length (layouts c.now) }
-    requires via { via < length (layouts c.now) }
-    requires target { target < length (layouts c.now) }
-    requires long { length (entries_between (layouts c.now) t source via start target) ≡ data_count t }
+    requires source { source < length (C.layouts c.now) }
+    requires via { via < length (C.layouts c.now) }
+    requires target { target < length (C.layouts c.now) }
+    requires long { length (entries_between (C.layouts c.now) t source via start target) ≡ data_count t }
 {
     let Ok(entries) = entries_of(heap, c, t, source, via, start, target) else {
         return Err(fmt::Error);

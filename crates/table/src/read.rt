@@ -66,7 +66,7 @@ fn as_index(p: [usize; 4]) -> Index
 
 fn sparse_place(pool: &[u16], r: LayoutRecord, number: usize) -> (Index, bool)
     requires { sparse_kept pool.now r ≡ true }
-    ensures { result ≡ (if nat_lt number (places_count (sparse_layout pool.now r)) then (index_of (at (sparse_layout pool.now r) number), true) else index_of origin, false) }
+    ensures { result ≡ (if nat_lt number (places_count (sparse_layout pool.now r)) then (index_of (at (sparse_layout pool.now r) number), true) else (index_of origin, false)) }
 {
     if number < r.count {
         (as_index(place_at(pool, r, number)), true)
@@ -78,7 +78,7 @@ fn sparse_place(pool: &[u16], r: LayoutRecord, number: usize) -> (Index, bool)
 /// The place with a number, beside whether there is one.
 pub(crate) fn place_read(pool: &[u16], r: LayoutRecord, number: usize) -> (Index, bool)
     requires { kept pool.now r ≡ true }
-    ensures { result ≡ (if nat_lt number (places_count (record_layout pool.now r)) then (index_of (at (record_layout pool.now r) number), true) else index_of origin, false) }
+    ensures { result ≡ (if nat_lt number (places_count (record_layout pool.now r)) then (index_of (at (record_layout pool.now r) number), true) else (index_of origin, false)) }
 {
     match r.kind {
         LayoutKind::Dense | LayoutKind::Diagonal => place_answer(grid_of(r), number),

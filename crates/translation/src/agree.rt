@@ -37,11 +37,11 @@ fn places_agree<C: Catalogue>(
     b: usize,
     j: usize,
 ) -> bool
-    requires a { a < length (layouts catalogue.now) }
-    requires b { b < length (layouts catalogue.now) }
-    requires i { i < place_count (slice_index_or (layouts catalogue.now) a blank) }
-    requires j { j < place_count (slice_index_or (layouts catalogue.now) b blank) }
-    ensures { result ≡ agrees m (at (slice_index_or (layouts catalogue.now) a blank) i) (at (slice_index_or (layouts catalogue.now) b blank) j) }
+    requires a { a < length (C.layouts catalogue.now) }
+    requires b { b < length (C.layouts catalogue.now) }
+    requires i { i < place_count (slice_index_or (C.layouts catalogue.now) a blank) }
+    requires j { j < place_count (slice_index_or (C.layouts catalogue.now) b blank) }
+    ensures { result ≡ agrees m (at (slice_index_or (C.layouts catalogue.now) a blank) i) (at (slice_index_or (C.layouts catalogue.now) b blank) j) }
 {
     let (p, _) = catalogue.place(a, i);
     let (q, _) = catalogue.place(b, j);
@@ -58,13 +58,13 @@ fn step_under<C: Catalogue>(
     j: usize,
     short_count: usize,
 ) -> Option<usize>
-    requires long { long < length (layouts catalogue.now) }
-    requires short { short < length (layouts catalogue.now) }
-    requires counted { short_count ≡ place_count (slice_index_or (layouts catalogue.now) short blank) }
+    requires long { long < length (C.layouts catalogue.now) }
+    requires short { short < length (C.layouts catalogue.now) }
+    requires counted { short_count ≡ place_count (slice_index_or (C.layouts catalogue.now) short blank) }
     requires few { short_count ≤ 65536 }
-    requires i { i < place_count (slice_index_or (layouts catalogue.now) long blank) }
+    requires i { i < place_count (slice_index_or (C.layouts catalogue.now) long blank) }
     requires j { j < short_count }
-    ensures { Steps m (slice_index_or (layouts catalogue.now) long blank) i (slice_index_or (layouts catalogue.now) short blank) j result }
+    ensures { Steps m (slice_index_or (C.layouts catalogue.now) long blank) i (slice_index_or (C.layouts catalogue.now) short blank) j result }
 {
     if places_agree(catalogue, m, long, i, short, j) {
         return Some(j);
@@ -84,13 +84,13 @@ pub(crate) fn covers<C: Catalogue>(
     short: usize,
     short_count: usize,
 ) -> bool
-    requires valid { AllValid (layouts catalogue.now) }
-    requires long { long < length (layouts catalogue.now) }
-    requires short { short < length (layouts catalogue.now) }
-    requires long_counted { long_count ≡ place_count (slice_index_or (layouts catalogue.now) long blank) }
-    requires short_counted { short_count ≡ place_count (slice_index_or (layouts catalogue.now) short blank) }
-    requires ranked { rank (slice_index_or (layouts catalogue.now) short blank) ≤ m }
-    ensures { Decides result (Covered m (slice_index_or (layouts catalogue.now) long blank) (slice_index_or (layouts catalogue.now) short blank)) }
+    requires valid { AllValid (C.layouts catalogue.now) }
+    requires long { long < length (C.layouts catalogue.now) }
+    requires short { short < length (C.layouts catalogue.now) }
+    requires long_counted { long_count ≡ place_count (slice_index_or (C.layouts catalogue.now) long blank) }
+    requires short_counted { short_count ≡ place_count (slice_index_or (C.layouts catalogue.now) short blank) }
+    requires ranked { rank (slice_index_or (C.layouts catalogue.now) short blank) ≤ m }
+    ensures { Decides result (Covered m (slice_index_or (C.layouts catalogue.now) long blank) (slice_index_or (C.layouts catalogue.now) short blank)) }
 {
     if !places_agree(catalogue, m, long, 0, short, 0) {
         return false;

@@ -54,13 +54,13 @@ fn write_from<C: Catalogue>(
     table: &mut [i32],
     at: usize,
 ) -> usize
-    requires known { source < length (layouts catalogue.now) }
-    requires counted { count ≡ place_count (slice_index_or (layouts catalogue.now) source blank) }
+    requires known { source < length (C.layouts catalogue.now) }
+    requires counted { count ≡ place_count (slice_index_or (C.layouts catalogue.now) source blank) }
     requires some { 1 ≤ count }
     requires few { count ≤ 65536 }
-    requires room { at + length (from_entries from (slice_index_or (layouts catalogue.now) source blank) via_rank) ≤ length table.old }
-    ensures end { result ≡ at + length (from_entries from (slice_index_or (layouts catalogue.now) source blank) via_rank) }
-    ensures written { table.new ≡ paste table.old at (from_entries from (slice_index_or (layouts catalogue.now) source blank) via_rank) (length (from_entries from (slice_index_or (layouts catalogue.now) source blank) via_rank)) }
+    requires room { at + length (from_entries from (slice_index_or (C.layouts catalogue.now) source blank) via_rank) ≤ length table.old }
+    ensures end { result ≡ at + length (from_entries from (slice_index_or (C.layouts catalogue.now) source blank) via_rank) }
+    ensures written { table.new ≡ paste table.old at (from_entries from (slice_index_or (C.layouts catalogue.now) source blank) via_rank) (length (from_entries from (slice_index_or (C.layouts catalogue.now) source blank) via_rank)) }
 {
     match from {
         TranslationFrom::SparseContraction { contract_by: _ } => write_ranges(
@@ -90,13 +90,13 @@ fn write_to<C: Catalogue>(
     table: &mut [i32],
     at: usize,
 ) -> usize
-    requires valid { AllValid (layouts catalogue.now) }
-    requires via { via < length (layouts catalogue.now) }
-    requires target { target < length (layouts catalogue.now) }
-    requires counted { count ≡ place_count (slice_index_or (layouts catalogue.now) via blank) }
-    requires room { at + length (to_entries to (destination_of (slice_index_or (layouts catalogue.now) via blank) start (slice_index_or (layouts catalogue.now) target blank)) count) ≤ length table.old }
-    ensures end { result ≡ at + length (to_entries to (destination_of (slice_index_or (layouts catalogue.now) via blank) start (slice_index_or (layouts catalogue.now) target blank)) count) }
-    ensures written { table.new ≡ paste table.old at (to_entries to (destination_of (slice_index_or (layouts catalogue.now) via blank) start (slice_index_or (layouts catalogue.now) target blank)) count) (length (to_entries to (destination_of (slice_index_or (layouts catalogue.now) via blank) start (slice_index_or (layouts catalogue.now) target blank)) count)) }
+    requires valid { AllValid (C.layouts catalogue.now) }
+    requires via { via < length (C.layouts catalogue.now) }
+    requires target { target < length (C.layouts catalogue.now) }
+    requires counted { count ≡ place_count (slice_index_or (C.layouts catalogue.now) via blank) }
+    requires room { at + length (to_entries to (destination_of (slice_index_or (C.layouts catalogue.now) via blank) start (slice_index_or (C.layouts catalogue.now) target blank)) count) ≤ length table.old }
+    ensures end { result ≡ at + length (to_entries to (destination_of (slice_index_or (C.layouts catalogue.now) via blank) start (slice_index_or (C.layouts catalogue.now) target blank)) count) }
+    ensures written { table.new ≡ paste table.old at (to_entries to (destination_of (slice_index_or (C.layouts catalogue.now) via blank) start (slice_index_or (C.layouts catalogue.now) target blank)) count) (length (to_entries to (destination_of (slice_index_or (C.layouts catalogue.now) via blank) start (slice_index_or (C.layouts catalogue.now) target blank)) count)) }
 {
     match to {
         TranslationTo::Contiguous { start: _, end: _ } => at,
@@ -114,11 +114,11 @@ fn from_len<C: Catalogue>(
     source: usize,
     count: usize,
 ) -> usize
-    requires known { source < length (layouts catalogue.now) }
-    requires counted { count ≡ place_count (slice_index_or (layouts catalogue.now) source blank) }
+    requires known { source < length (C.layouts catalogue.now) }
+    requires counted { count ≡ place_count (slice_index_or (C.layouts catalogue.now) source blank) }
     requires some { 1 ≤ count }
     requires few { count ≤ 65536 }
-    ensures is { result ≡ length (from_entries from (slice_index_or (layouts catalogue.now) source blank) via_rank) }
+    ensures is { result ≡ length (from_entries from (slice_index_or (C.layouts catalogue.now) source blank) via_rank) }
     ensures bound { result ≤ 131072 }
 {
     match from {
@@ -159,13 +159,13 @@ fn write_entries<C: Catalogue>(
     table: &mut [i32],
     at: usize,
 ) -> usize
-    requires valid { AllValid (layouts catalogue.now) }
-    requires source { source < length (layouts catalogue.now) }
-    requires via { via < length (layouts catalogue.now) }
-    requires target { target < length (layouts catalogue.now) }
-    requires room { at + length (data_layout translation (slice_index_or (layouts catalogue.now) source blank) (slice_index_or (layouts catalogue.now) via blank) start (slice_index_or (layouts catalogue.now) target blank)) ≤ length table.old }
-    ensures end { result ≡ at + length (data_layout translation (slice_index_or (layouts catalogue.now) source blank) (slice_index_or (layouts catalogue.now) via blank) start (slice_index_or (layouts catalogue.now) target blank)) }
-    ensures written { table.new ≡ paste table.old at (data_layout translation (slice_index_or (layouts catalogue.now) source blank) (slice_index_or (layouts catalogue.now) via blank) start (slice_index_or (layouts catalogue.now) target blank)) (length (data_layout translation (slice_index_or (layouts catalogue.now) source blank) (slice_index_or (layouts catalogue.now) via blank) start (slice_index_or (layouts catalogue.now) target blank))) }
+    requires valid { AllValid (C.layouts catalogue.now) }
+    requires source { source < length (C.layouts catalogue.now) }
+    requires via { via < length (C.layouts catalogue.now) }
+    requires target { target < length (C.layouts catalogue.now) }
+    requires room { at + length (data_layout translation (slice_index_or (C.layouts catalogue.now) source blank) (slice_index_or (C.layouts catalogue.now) via blank) start (slice_index_or (C.layouts catalogue.now) target blank)) ≤ length table.old }
+    ensures end { result ≡ at + length (data_layout translation (slice_index_or (C.layouts catalogue.now) source blank) (slice_index_or (C.layouts catalogue.now) via blank) start (slice_index_or (C.layouts catalogue.now) target blank)) }
+    ensures written { table.new ≡ paste table.old at (data_layout translation (slice_index_or (C.layouts catalogue.now) source blank) (slice_index_or (C.layouts catalogue.now) via blank) start (slice_index_or (C.layouts catalogue.now) target blank)) (length (data_layout translation (slice_index_or (C.layouts catalogue.now) source blank) (slice_index_or (C.layouts catalogue.now) via blank) start (slice_index_or (C.layouts catalogue.now) target blank))) }
 {
     let Ok(s) = catalogue.shape(source) else {
         return at;
@@ -213,8 +213,8 @@ pub fn to_data_layout<C: Catalogue>(
     table: &mut [i32],
     at: usize,
 ) -> Result<usize, TranslationFault>
-    ensures answer { result ≡ appending (layouts catalogue.now) translation source via start target (length table.old) at }
-    ensures written { table.new ≡ appended result table.old at (entries_of (layouts catalogue.now) translation source via start target) }
+    ensures answer { result ≡ appending (C.layouts catalogue.now) translation source via start target (length table.old) at }
+    ensures written { table.new ≡ appended result table.old at (entries_of (C.layouts catalogue.now) translation source via start target) }
 {
     let s = measured(catalogue, source)?;
     let v = measured(catalogue, via)?;

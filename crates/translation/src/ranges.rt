@@ -11,10 +11,10 @@ use layout::catalogue::Catalogue;
 
 /// Feeds place 0.
 fn feed_first<C: Catalogue>(catalogue: &C, cutting: &mut Cutting, layout: usize)
-    requires known { layout < length (layouts catalogue.now) }
-    requires there { 0 < place_count (slice_index_or (layouts catalogue.now) layout blank) }
+    requires known { layout < length (C.layouts catalogue.now) }
+    requires there { 0 < place_count (slice_index_or (C.layouts catalogue.now) layout blank) }
     ensures axes { cutting.new.axes ≡ cutting.old.axes }
-    ensures last { cutting.new.last ≡ Some (index_of (place_at (slice_index_or (layouts catalogue.now) layout blank) 0)) }
+    ensures last { cutting.new.last ≡ Some (index_of (place_at (slice_index_or (C.layouts catalogue.now) layout blank) 0)) }
 {
     let (place, _) = catalogue.place(layout, 0);
     let _ = cutting.begins(place);
@@ -22,13 +22,13 @@ fn feed_first<C: Catalogue>(catalogue: &C, cutting: &mut Cutting, layout: usize)
 
 /// Feeds place `i` after the one before it, and answers whether a range begins there.
 fn feed<C: Catalogue>(catalogue: &C, cutting: &mut Cutting, layout: usize, i: usize) -> bool
-    requires known { layout < length (layouts catalogue.now) }
+    requires known { layout < length (C.layouts catalogue.now) }
     requires after { 0 < i }
-    requires there { i < place_count (slice_index_or (layouts catalogue.now) layout blank) }
-    requires fed { cutting.old.last ≡ Some (index_of (place_at (slice_index_or (layouts catalogue.now) layout blank) (i - 1))) }
-    ensures is { result ≡ cut cutting.old.axes (slice_index_or (layouts catalogue.now) layout blank) i }
+    requires there { i < place_count (slice_index_or (C.layouts catalogue.now) layout blank) }
+    requires fed { cutting.old.last ≡ Some (index_of (place_at (slice_index_or (C.layouts catalogue.now) layout blank) (i - 1))) }
+    ensures is { result ≡ cut cutting.old.axes (slice_index_or (C.layouts catalogue.now) layout blank) i }
     ensures axes { cutting.new.axes ≡ cutting.old.axes }
-    ensures last { cutting.new.last ≡ Some (index_of (place_at (slice_index_or (layouts catalogue.now) layout blank) i)) }
+    ensures last { cutting.new.last ≡ Some (index_of (place_at (slice_index_or (C.layouts catalogue.now) layout blank) i)) }
 {
     let (place, _) = catalogue.place(layout, i);
     cutting.begins(place)
@@ -41,10 +41,10 @@ pub(crate) fn count_ranges<C: Catalogue>(
     layout: usize,
     count: usize,
 ) -> usize
-    requires known { layout < length (layouts catalogue.now) }
-    requires counted { count ≡ place_count (slice_index_or (layouts catalogue.now) layout blank) }
+    requires known { layout < length (C.layouts catalogue.now) }
+    requires counted { count ≡ place_count (slice_index_or (C.layouts catalogue.now) layout blank) }
     requires some { 1 ≤ count }
-    ensures is { result ≡ length (ranges m (slice_index_or (layouts catalogue.now) layout blank)) }
+    ensures is { result ≡ length (ranges m (slice_index_or (C.layouts catalogue.now) layout blank)) }
     ensures bound { result ≤ count }
 {
     let mut cutting = Cutting::new(m);
@@ -77,13 +77,13 @@ pub(crate) fn write_ranges<C: Catalogue>(
     table: &mut [i32],
     at: usize,
 ) -> usize
-    requires known { layout < length (layouts catalogue.now) }
-    requires counted { count ≡ place_count (slice_index_or (layouts catalogue.now) layout blank) }
+    requires known { layout < length (C.layouts catalogue.now) }
+    requires counted { count ≡ place_count (slice_index_or (C.layouts catalogue.now) layout blank) }
     requires some { 1 ≤ count }
     requires few { count ≤ 65536 }
-    requires room { at + length (range_entries (ranges m (slice_index_or (layouts catalogue.now) layout blank))) ≤ length table.old }
-    ensures end { result ≡ at + length (range_entries (ranges m (slice_index_or (layouts catalogue.now) layout blank))) }
-    ensures written { table.new ≡ paste table.old at (range_entries (ranges m (slice_index_or (layouts catalogue.now) layout blank))) (length (range_entries (ranges m (slice_index_or (layouts catalogue.now) layout blank)))) }
+    requires room { at + length (range_entries (ranges m (slice_index_or (C.layouts catalogue.now) layout blank))) ≤ length table.old }
+    ensures end { result ≡ at + length (range_entries (ranges m (slice_index_or (C.layouts catalogue.now) layout blank))) }
+    ensures written { table.new ≡ paste table.old at (range_entries (ranges m (slice_index_or (C.layouts catalogue.now) layout blank))) (length (range_entries (ranges m (slice_index_or (C.layouts catalogue.now) layout blank)))) }
 {
     let mut cutting = Cutting::new(m);
     feed_first(catalogue, &mut cutting, layout);

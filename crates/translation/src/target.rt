@@ -12,8 +12,8 @@ use layout::index::Index;
 
 /// The number of an index in a target, looked up strictly.
 fn number_in<C: Catalogue>(catalogue: &C, target: usize, index: Index) -> Option<usize>
-    requires { target < length (layouts catalogue.now) }
-    ensures { result ≡ strict (slice_index_or (layouts catalogue.now) target blank) index }
+    requires { target < length (C.layouts catalogue.now) }
+    ensures { result ≡ strict (slice_index_or (C.layouts catalogue.now) target blank) index }
 {
     match catalogue.number(target, index) {
         Ok(number) => number,
@@ -29,11 +29,11 @@ pub fn destination<C: Catalogue>(
     target: usize,
     k: usize,
 ) -> Option<usize>
-    requires valid { AllValid (layouts catalogue.now) }
-    requires via { via < length (layouts catalogue.now) }
-    requires target { target < length (layouts catalogue.now) }
-    requires there { k < place_count (slice_index_or (layouts catalogue.now) via blank) }
-    ensures is { result ≡ destination_of (slice_index_or (layouts catalogue.now) via blank) start (slice_index_or (layouts catalogue.now) target blank) k }
+    requires valid { AllValid (C.layouts catalogue.now) }
+    requires via { via < length (C.layouts catalogue.now) }
+    requires target { target < length (C.layouts catalogue.now) }
+    requires there { k < place_count (slice_index_or (C.layouts catalogue.now) via blank) }
+    ensures is { result ≡ destination_of (slice_index_or (C.layouts catalogue.now) via blank) start (slice_index_or (C.layouts catalogue.now) target blank) k }
     ensures within { IfSome result (λ n. n < 65536) }
 {
     let (place, _) = catalogue.place(via, k);
@@ -49,11 +49,11 @@ impl TranslationTo {
         start: Index,
         target: usize,
     ) -> Result<TranslationTo, usize>
-        requires valid { AllValid (layouts catalogue.now) }
-        requires via { via < length (layouts catalogue.now) }
-        requires target { target < length (layouts catalogue.now) }
-        requires counted { count ≡ place_count (slice_index_or (layouts catalogue.now) via blank) }
-        ensures { result ≡ to_of (destination_of (slice_index_or (layouts catalogue.now) via blank) start (slice_index_or (layouts catalogue.now) target blank)) count }
+        requires valid { AllValid (C.layouts catalogue.now) }
+        requires via { via < length (C.layouts catalogue.now) }
+        requires target { target < length (C.layouts catalogue.now) }
+        requires counted { count ≡ place_count (slice_index_or (C.layouts catalogue.now) via blank) }
+        ensures { result ≡ to_of (destination_of (slice_index_or (C.layouts catalogue.now) via blank) start (slice_index_or (C.layouts catalogue.now) target blank)) count }
     {
         let Some(first) = destination(catalogue, via, start, target, 0) else {
             return Err(0);
@@ -88,13 +88,13 @@ pub(crate) fn write_destinations<C: Catalogue>(
     table: &mut [i32],
     at: usize,
 ) -> usize
-    requires valid { AllValid (layouts catalogue.now) }
-    requires via { via < length (layouts catalogue.now) }
-    requires target { target < length (layouts catalogue.now) }
-    requires counted { count ≡ place_count (slice_index_or (layouts catalogue.now) via blank) }
+    requires valid { AllValid (C.layouts catalogue.now) }
+    requires via { via < length (C.layouts catalogue.now) }
+    requires target { target < length (C.layouts catalogue.now) }
+    requires counted { count ≡ place_count (slice_index_or (C.layouts catalogue.now) via blank) }
     requires room { at + count ≤ length table.old }
     ensures end { result ≡ at + count }
-    ensures written { table.new ≡ paste table.old at (destination_entries (destination_of (slice_index_or (layouts catalogue.now) via blank) start (slice_index_or (layouts catalogue.now) target blank)) count) count }
+    ensures written { table.new ≡ paste table.old at (destination_entries (destination_of (slice_index_or (C.layouts catalogue.now) via blank) start (slice_index_or (C.layouts catalogue.now) target blank)) count) count }
 {
     for k in 0..count {
         table[at + k] = entry(destination(catalogue, via, start, target, k));

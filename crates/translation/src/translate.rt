@@ -21,8 +21,8 @@ pub(crate) fn measured<C: Catalogue>(
     catalogue: &C,
     layout: usize,
 ) -> Result<Shape, TranslationFault>
-    ensures is { result ≡ measure_of (layouts catalogue.now) layout }
-    ensures valid { AllValid (layouts catalogue.now) }
+    ensures is { result ≡ measure_of (C.layouts catalogue.now) layout }
+    ensures valid { AllValid (C.layouts catalogue.now) }
 {
     if layout >= catalogue.count() {
         return Err(TranslationFault::Unknown);
@@ -38,11 +38,11 @@ fn elements<C: Catalogue>(
     s: Shape,
     via_rank: usize,
 ) -> Option<usize>
-    requires valid { AllValid (layouts catalogue.now) }
-    requires source { source < length (layouts catalogue.now) }
-    requires shape { s ≡ shape_of (slice_index_or (layouts catalogue.now) source blank) }
+    requires valid { AllValid (C.layouts catalogue.now) }
+    requires source { source < length (C.layouts catalogue.now) }
+    requires shape { s ≡ shape_of (slice_index_or (C.layouts catalogue.now) source blank) }
     requires long { Long from }
-    ensures { MatchOption result (65536 < elements_of from s.count (length (ranges via_rank (slice_index_or (layouts catalogue.now) source blank)))) (λ n. n ≡ elements_of from s.count (length (ranges via_rank (slice_index_or (layouts catalogue.now) source blank)))) }
+    ensures { MatchOption result (65536 < elements_of from s.count (length (ranges via_rank (slice_index_or (C.layouts catalogue.now) source blank)))) (λ n. n ≡ elements_of from s.count (length (ranges via_rank (slice_index_or (C.layouts catalogue.now) source blank)))) }
 {
     match from {
         TranslationFrom::DenseContraction {
@@ -63,12 +63,12 @@ fn elements<C: Catalogue>(
 
 /// Whether each source place lies over a via place, and each via place under a source place.
 fn is_covered<C: Catalogue>(catalogue: &C, source: usize, s: Shape, via: usize, v: Shape) -> bool
-    requires valid { AllValid (layouts catalogue.now) }
-    requires source { source < length (layouts catalogue.now) }
-    requires via { via < length (layouts catalogue.now) }
-    requires source_shape { s ≡ shape_of (slice_index_or (layouts catalogue.now) source blank) }
-    requires via_shape { v ≡ shape_of (slice_index_or (layouts catalogue.now) via blank) }
-    ensures { result ≡ covered (min (rank (slice_index_or (layouts catalogue.now) source blank)) (rank (slice_index_or (layouts catalogue.now) via blank))) (slice_index_or (layouts catalogue.now) source blank) (slice_index_or (layouts catalogue.now) via blank) }
+    requires valid { AllValid (C.layouts catalogue.now) }
+    requires source { source < length (C.layouts catalogue.now) }
+    requires via { via < length (C.layouts catalogue.now) }
+    requires source_shape { s ≡ shape_of (slice_index_or (C.layouts catalogue.now) source blank) }
+    requires via_shape { v ≡ shape_of (slice_index_or (C.layouts catalogue.now) via blank) }
+    ensures { result ≡ covered (min (rank (slice_index_or (C.layouts catalogue.now) source blank)) (rank (slice_index_or (C.layouts catalogue.now) via blank))) (slice_index_or (C.layouts catalogue.now) source blank) (slice_index_or (C.layouts catalogue.now) via blank) }
 {
     if v.rank <= s.rank {
         covers(catalogue, v.rank, source, s.count, via, v.count)
@@ -88,14 +88,14 @@ fn translate_by<C: Catalogue>(
     start: Index,
     target: usize,
 ) -> Result<Translation, TranslationFault>
-    requires valid { AllValid (layouts catalogue.now) }
-    requires source { source < length (layouts catalogue.now) }
-    requires via { via < length (layouts catalogue.now) }
-    requires target { target < length (layouts catalogue.now) }
-    requires source_shape { s ≡ shape_of (slice_index_or (layouts catalogue.now) source blank) }
-    requires via_shape { v ≡ shape_of (slice_index_or (layouts catalogue.now) via blank) }
+    requires valid { AllValid (C.layouts catalogue.now) }
+    requires source { source < length (C.layouts catalogue.now) }
+    requires via { via < length (C.layouts catalogue.now) }
+    requires target { target < length (C.layouts catalogue.now) }
+    requires source_shape { s ≡ shape_of (slice_index_or (C.layouts catalogue.now) source blank) }
+    requires via_shape { v ≡ shape_of (slice_index_or (C.layouts catalogue.now) via blank) }
     requires long { Long from }
-    ensures { result ≡ translated_by (Some from) (slice_index_or (layouts catalogue.now) source blank) (slice_index_or (layouts catalogue.now) via blank) start (slice_index_or (layouts catalogue.now) target blank) }
+    ensures { result ≡ translated_by (Some from) (slice_index_or (C.layouts catalogue.now) source blank) (slice_index_or (C.layouts catalogue.now) via blank) start (slice_index_or (C.layouts catalogue.now) target blank) }
 {
     let Some(made) = elements(catalogue, from, source, s, v.rank) else {
         return Err(TranslationFault::Elements);
@@ -124,8 +124,8 @@ fn outcome<C: Catalogue>(
     start: Index,
     target: usize,
 ) -> Result<Translation, TranslationFault>
-    ensures is { result ≡ translated (layouts catalogue.now) source via start target }
-    ensures valid { AllValid (layouts catalogue.now) }
+    ensures is { result ≡ translated (C.layouts catalogue.now) source via start target }
+    ensures valid { AllValid (C.layouts catalogue.now) }
 {
     let s = measured(catalogue, source)?;
     let v = measured(catalogue, via)?;
@@ -147,10 +147,10 @@ fn ranges_fit<C: Catalogue>(
     s: Shape,
     v: Shape,
 ) -> bool
-    requires source { source < length (layouts catalogue.now) }
-    requires counted { s.count ≡ place_count (slice_index_or (layouts catalogue.now) source blank) }
+    requires source { source < length (C.layouts catalogue.now) }
+    requires counted { s.count ≡ place_count (slice_index_or (C.layouts catalogue.now) source blank) }
     requires some { 1 ≤ s.count }
-    ensures { (via : Layout) → v ≡ shape_of via → result ≡ fit_of from (slice_index_or (layouts catalogue.now) source blank) via }
+    ensures { (via : Layout) → v ≡ shape_of via → result ≡ fit_of from (slice_index_or (C.layouts catalogue.now) source blank) via }
 {
     match from {
         TranslationFrom::SparseContraction { contract_by: _ } => count_ranges(
@@ -176,7 +176,7 @@ impl TranslationFrom {
         source: usize,
         via: usize,
     ) -> Result<TranslationFrom, TranslationFault>
-        ensures { result ≡ from_asked (layouts catalogue.now) source via }
+        ensures { result ≡ from_asked (C.layouts catalogue.now) source via }
     {
         let s = measured(catalogue, source)?;
         let v = measured(catalogue, via)?;
@@ -200,10 +200,10 @@ impl Translation {
         start: Index,
         target: usize,
     ) -> Result<Translation, TranslationFault>
-        ensures is { result ≡ translated (layouts catalogue.now) source via start target }
-        ensures lawful { IfOk result (LawfulIn (layouts catalogue.now) source via start target) }
+        ensures is { result ≡ translated (C.layouts catalogue.now) source via start target }
+        ensures lawful { IfOk result (LawfulIn (C.layouts catalogue.now) source via start target) }
         ensures over { OverListed }
-        ensures valid { AllValid (layouts catalogue.now) }
+        ensures valid { AllValid (C.layouts catalogue.now) }
     {
         outcome(catalogue, source, via, start, target)
     }

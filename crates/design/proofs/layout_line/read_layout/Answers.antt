@@ -5,9 +5,9 @@ use Rattle.design.proofs.layout_line.read_layout.Goals as goal
 
 pub returns : goal.returns
 returns c =
-    let v = c.in-ok-numbers.numbers.values in
-    layout_said _ (λ w n h. natural_read 64 w n h.0) _ _ _ _ _ _ _ _ c.in-ok-kind.ensures c.in-ok-numbers.ensures.takes
+    let v = c.in_ok-numbers.numbers.values in
+    layout_said _ (λ w n h. natural_read 64 w n h.0) _ _ _ _ _ _ _ _ c.in_ok-kind.ensures c.in_ok-numbers.ensures.takes
     (c.len-rank.ensures ∙ v.ok.0)
-    (c.first-four-lengths.ensures ∙ ap (four 1) c.as-slice.ensures.value)
+    (c.first_four-lengths.ensures ∙ ap (four 1) c.as_slice.ensures.value)
     (c.len-start.ensures ∙ c.args.pool.now.ok.0)
-    c.in-ok-count.ensures
+    c.in_ok-count.ensures

@@ -9,26 +9,26 @@ use Rattle.design.proofs.layout_line.read_places.Goals as goal
 pub loop-word-init : goal.loop-word-init
 loop-word-init c = (omega arith, omega arith, none_yet _ _ _)
 
-pub overflow-add-place : goal.overflow-add-place
-overflow-add-place c = let f = few c.loop-word.invariant.2 c.loop-word.invariant.0 c.in-ok-check-place.ensures in search rules
+pub overflow_add-place : goal.overflow_add-place
+overflow_add-place c = let f = few c.loop-word.invariant.2 c.loop-word.invariant.0 c.in_ok-check_place.ensures in search rules
 
 pub loop-word-preserved-then-eq : goal.loop-word-preserved-then-eq
 loop-word-preserved-then-eq c =
     let took = c.in-Some.ensures.takes in
     let comma = c.if-eq.ensures.0 refl in
-    let long = c.in-ok-check-place.ensures in
+    let long = c.in_ok-check_place.ensures in
     (c.loop-word.invariant.0, omega arith, one_comma c.loop-word.invariant.2 _ (rw comma at took) (omega (arith, long, c.loop-word.invariant.1)))
 
 pub loop-word-preserved : goal.loop-word-preserved
 loop-word-preserved c =
     let took = c.in-Some.ensures.takes in
-    let got = c.in-ok-entry.ensures in
-    let e = c.in-ok-entry.entry in
+    let got = c.in_ok-entry.ensures in
+    let e = c.in_ok-entry.entry in
     let w = c.in-Some.word.now in
     let is = natural_read 16 w e (subst (ParsesUnsigned 16 10 w) got.2 got.1.0) in (
       c.loop-word.invariant.0,
       omega arith,
-      one_entry c.loop-word.invariant.2 w e _ _ took is (pushed (e ∷ []) refl c.in-ok-push.was c.push.ensures.items),
+      one_entry c.loop-word.invariant.2 w e _ _ took is (pushed (e ∷ []) refl c.in_ok-push.was c.push.ensures.items),
     )
 
 pub returns-then-entries-eq0 : goal.returns-then-entries-eq0
@@ -36,5 +36,5 @@ returns-then-entries-eq0 c =
     let none : unread c.loop-word.words ≡ [] = search rules in
     unlisted c.loop-word.invariant.2 none c.if-place-eq0.true c.if-entries-eq0.true
 
-pub overflow-add-result : goal.overflow-add-result
-overflow-add-result c = let f = few c.loop-word.invariant.2 c.loop-word.invariant.0 c.in-ok-check-place-2.ensures in search rules
+pub overflow_add-result : goal.overflow_add-result
+overflow_add-result c = let f = few c.loop-word.invariant.2 c.loop-word.invariant.0 c.in_ok-check_place-2.ensures in search rules

@@ -5,7 +5,7 @@ use Rattle.design.proofs.question_line.read_entries.Goals as goal
 
 pub returns : goal.returns
 returns c =
-    let v = c.in-ok-numbers.numbers.values in
+    let v = c.in_ok-numbers.numbers.values in
     let long = c.len-count.ensures ∙ v.ok.0 in
-    entries_said _ (λ w z h. integer_read w z h.0) _ _ _ _ _ c.in-ok-numbers.ensures.takes c.if-numbers.false long (omega (arith, long))
-    (c.first-four-index.ensures ∙ ap (four (pos 0)) c.as-slice.ensures.value)
+    entries_said _ (λ w z h. integer_read w z h.0) _ _ _ _ _ c.in_ok-numbers.ensures.takes c.if-numbers.false long (omega (arith, long))
+    (c.first_four-index.ensures ∙ ap (four (pos 0)) c.as_slice.ensures.value)

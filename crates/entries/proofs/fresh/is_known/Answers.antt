@@ -5,8 +5,8 @@ use Rattle.entries.proofs.fresh.is_known.Goals as goal
 
 pub returns : goal.returns
 returns c =
-    let a = c.is-recorded.ensures in
-    let b = c.is-listed.ensures in
+    let a = c.is_recorded.ensures in
+    let b = c.is_listed.ensures in
     let z : c.args.count - 0 ≡ c.args.count = omega arith in
     let h = has_key_append c.args.key (keys_of c.args.binaries.now) (take c.args.count c.args.keys.now) in
     cc

@@ -9,4 +9,4 @@ pub returns-in-Err : goal.returns-in-Err
 returns-in-Err g c =
     let ls = g.C.Catalogue.layouts c.args.c.now in
     no_layout ls c.args.source (letters_of c.args.block) (letters_of c.args.name) c.args.layout
-    (refused_past shape_of ls c.args.layout c.in-Err.field_0 c.in-Err.ensures)
+    (refused_past shape_of ls c.args.layout c.in-Err.field-0 c.in-Err.ensures)

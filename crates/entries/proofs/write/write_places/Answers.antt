@@ -15,8 +15,8 @@ use Rattle.entries.proofs.write.write_places.Goals as goal
 pub loop-k-init : goal.loop-k-init
 loop-k-init g c = (omega arith, paste_none c.args.indices.now c.args.at [])
 
-pub write-place-end-requires : goal.write-place-end-requires
-write-place-end-requires g c =
+pub write_place-end-requires : goal.write_place-end-requires
+write_place-end-requires g c =
     let ls = g.C.Catalogue.layouts c.args.c.now in
     let s = get_or ls c.args.layout blank in
     let v = c.requires.valid c.args.layout c.requires.known in
@@ -43,12 +43,12 @@ loop-k-preserved g c =
     let f = λ (p : Place). take (rank s) (index_of p) in
     let e = place_known ls c.args.layout k c.place.result c.place.ensures c.requires.known below in
     let n : length (f (at s k)) ≡ rank s = length-take-le (rank s) (index_of (at s k)) v.ranked in
-    let end : c.write-place-end.result ≡ c.loop-k.end + length (f (at s k)) = omega (arith, c.write-place-end.ensures.end, c.requires.rank) in
-    let w : c.write-place-end.new.indices ≡ written c.loop-k.indices c.loop-k.end (f (at s k)) =
-    c.write-place-end.ensures.entries ∙ ap (λ x. paste c.loop-k.indices c.loop-k.end x c.args.rank) e ∙ ap (paste c.loop-k.indices c.loop-k.end (index_of (at s k))) c.requires.rank
+    let end : c.write_place-end.result ≡ c.loop-k.end + length (f (at s k)) = omega (arith, c.write_place-end.ensures.end, c.requires.rank) in
+    let w : c.write_place-end.new.indices ≡ written c.loop-k.indices c.loop-k.end (f (at s k)) =
+    c.write_place-end.ensures.entries ∙ ap (λ x. paste c.loop-k.indices c.loop-k.end x c.args.rank) e ∙ ap (paste c.loop-k.indices c.loop-k.end (index_of (at s k))) c.requires.rank
     ∙ pasted_front c.loop-k.indices (index_of (at s k)) c.loop-k.end (rank s) v.ranked in (
-      end_more f s.places origin c.args.at k below c.loop-k.end c.write-place-end.result c.loop-k.invariant.0 end,
-      entries_more f s.places origin c.args.at k below c.args.indices.now c.loop-k.indices c.write-place-end.new.indices c.loop-k.end (omega (arith, c.requires.room)) c.loop-k.invariant.0 c.loop-k.invariant.1 w,
+      end_more f s.places origin c.args.at k below c.loop-k.end c.write_place-end.result c.loop-k.invariant.0 end,
+      entries_more f s.places origin c.args.at k below c.args.indices.now c.loop-k.indices c.write_place-end.new.indices c.loop-k.end (omega (arith, c.requires.room)) c.loop-k.invariant.0 c.loop-k.invariant.1 w,
     )
 
 pub returns : goal.returns

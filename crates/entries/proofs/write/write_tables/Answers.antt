@@ -9,8 +9,8 @@ use Rattle.entries.proofs.write.write_tables.Goals as goal
 pub loop-i-init : goal.loop-i-init
 loop-i-init g c = (omega arith, paste_none c.args.indices.now c.args.at [], paste_none c.args.binaries.now c.args.number [])
 
-pub write-table-end-requires : goal.write-table-end-requires
-write-table-end-requires g c =
+pub write_table-end-requires : goal.write_table-end-requires
+write_table-end-requires g c =
     let ls = g.C.Catalogue.layouts c.args.c.now in
     let h = c.loop-i-test.true in
     let k = c.requires.known c.loop-i.i h in
@@ -21,9 +21,9 @@ loop-i-preserved g c =
     let ls = g.C.Catalogue.layouts c.args.c.now in
     let h = c.loop-i-test.true in
     let ks = c.args.keys.now in (
-      end_more (table_of ls) ks no_key c.args.at c.loop-i.i h c.loop-i.end _ c.loop-i.invariant.0 c.write-table-end.ensures.end,
-      entries_more (table_of ls) ks no_key c.args.at c.loop-i.i h c.args.indices.now c.loop-i.indices _ c.loop-i.end (omega (arith, c.requires.room)) c.loop-i.invariant.0 c.loop-i.invariant.1 c.write-table-end.ensures.entries,
-      records_more ls ks c.args.at c.loop-i.i h c.args.binaries.now c.loop-i.binaries _ c.args.number c.loop-i.end c.requires.records c.loop-i.invariant.0 c.loop-i.invariant.2 c.put-record.ensures,
+      end_more (table_of ls) ks no_key c.args.at c.loop-i.i h c.loop-i.end _ c.loop-i.invariant.0 c.write_table-end.ensures.end,
+      entries_more (table_of ls) ks no_key c.args.at c.loop-i.i h c.args.indices.now c.loop-i.indices _ c.loop-i.end (omega (arith, c.requires.room)) c.loop-i.invariant.0 c.loop-i.invariant.1 c.write_table-end.ensures.entries,
+      records_more ls ks c.args.at c.loop-i.i h c.args.binaries.now c.loop-i.binaries _ c.args.number c.loop-i.end c.requires.records c.loop-i.invariant.0 c.loop-i.invariant.2 c.put_record.ensures,
     )
 
 pub returns : goal.returns

@@ -14,8 +14,8 @@ unravelled-requires c =
       small = omega (arith, c.requires.there, (grid_valid c.args.g c.requires.sound).many);
     }
 
-pub diagonal-place-requires : goal.diagonal-place-requires
-diagonal-place-requires c = omega (arith, c.requires.there, (grid_valid c.args.g c.requires.sound).many)
+pub diagonal_place-requires : goal.diagonal_place-requires
+diagonal_place-requires c = omega (arith, c.requires.there, (grid_valid c.args.g c.requires.sound).many)
 
 pub returns-in-Dense : goal.returns-in-Dense
 returns-in-Dense c =
@@ -26,4 +26,4 @@ pub returns-in-Diagonal : goal.returns-in-Diagonal
 returns-in-Diagonal c =
     let n : length c.args.g.lengths ≡ 4 = search rules in
     let l : c.args.number < axis (grid_shape c.args.g) 0 = rw (count_diagonal c.args.g c.in-Diagonal.is) at c.requires.there in
-    c.diagonal-place.ensures ∙ ap (λ r. index_of (along r c.args.number)) (sym (rank_is c.args.g c.requires.sound n)) ∙ ap index_of (sym (at_diagonal c.args.g c.args.number c.in-Diagonal.is l))
+    c.diagonal_place.ensures ∙ ap (λ r. index_of (along r c.args.number)) (sym (rank_is c.args.g c.requires.sound n)) ∙ ap index_of (sym (at_diagonal c.args.g c.args.number c.in-Diagonal.is l))

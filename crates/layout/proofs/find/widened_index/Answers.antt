@@ -16,8 +16,8 @@ returns c =
     let n : length c.args.lengths ≡ 4 = search rules in
     let ns = c.args.lengths in
     let xs = c.args.index in
-    let e0 = one ns xs 0 _ n (omega arith) (search rules) (search rules) c.widened-entry.ensures in
-    let e1 = one ns xs 1 _ n (omega arith) (search rules) (search rules) c.widened-entry-2.ensures in
-    let e2 = one ns xs 2 _ n (omega arith) (search rules) (search rules) c.widened-entry-3.ensures in
-    let e3 = one ns xs 3 _ n (omega arith) (search rules) (search rules) c.widened-entry-4.ensures in
+    let e0 = one ns xs 0 _ n (omega arith) (search rules) (search rules) c.widened_entry.ensures in
+    let e1 = one ns xs 1 _ n (omega arith) (search rules) (search rules) c.widened_entry-2.ensures in
+    let e2 = one ns xs 2 _ n (omega arith) (search rules) (search rules) c.widened_entry-3.ensures in
+    let e3 = one ns xs 3 _ n (omega arith) (search rules) (search rules) c.widened_entry-4.ensures in
     cc

@@ -7,6 +7,6 @@ pub returns : goal.returns
 returns c =
     let n : length c.args.lengths ≡ 4 = search rules in
     let d = get_or_default c.args.lengths c.args.i 0 1 (omega arith) in
-    let f : SFits w64 c.entry-given.result = search rules in
-    let a = to_z-of_z w64 c.entry-given.result f in
+    let f : SFits w64 c.entry_given.result = search rules in
+    let a = to_z-of_z w64 c.entry_given.result f in
     cc

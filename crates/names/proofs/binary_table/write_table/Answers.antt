@@ -14,5 +14,5 @@ loop-k-init g c =
 pub loop-k-preserved : goal.loop-k-preserved
 loop-k-preserved g c =
     let ls = g.C.Catalogue.layouts c.args.c.now in
-    let b : to_z w32 (of_z w32 c.entry-at.result) ≡ c.entry-at.result = omega (arith, ints) in
-    table_written (get_or ls c.args.layout blank) (get_or ls c.args.source blank) c.args.slots.now c.args.table.now c.loop-k.table _ c.args.at c.loop-k.k (to_z w32 (of_z w32 c.entry-at.result)) c.loop-k.invariant (omega (arith, c.requires.counted)) (omega (arith, c.requires.counted, c.requires.room)) (b ∙ c.entry-at.ensures) refl
+    let b : to_z w32 (of_z w32 c.entry_at.result) ≡ c.entry_at.result = omega (arith, ints) in
+    table_written (get_or ls c.args.layout blank) (get_or ls c.args.source blank) c.args.slots.now c.args.table.now c.loop-k.table _ c.args.at c.loop-k.k (to_z w32 (of_z w32 c.entry_at.result)) c.loop-k.invariant (omega (arith, c.requires.counted)) (omega (arith, c.requires.counted, c.requires.room)) (b ∙ c.entry_at.ensures) refl

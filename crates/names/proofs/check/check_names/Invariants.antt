@@ -5,5 +5,5 @@ use Rattle.names.proofs.check.check_names.Given as goal
 
 abbrev pub invariant-loop-i : goal.invariant-loop-i
 invariant-loop-i g l =
-    let check = names_check (environment (g.C.Catalogue.layouts l.c) l.variables) (ready_but l.opened) l.constant l.block l.source-rank in
+    let check = names_check (environment (g.C.Catalogue.layouts l.c) l.variables) (ready_but l.opened) l.constant l.block l.source_rank in
     check l.i (drop l.i l.nodes) ≡ check 0 l.nodes

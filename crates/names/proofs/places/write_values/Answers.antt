@@ -4,16 +4,16 @@ use Rattle.names.specs.Outcomes.{value_by}
 use Rattle.names.proofs.Gathering.{front_more, front_stops, front_all}
 use Rattle.names.proofs.places.write_values.Goals as goal
 
-pub returns-in-err-value : goal.returns-in-err-value
-returns-in-err-value g c =
+pub returns-in_err-value : goal.returns-in_err-value
+returns-in_err-value g c =
     let f = value_by (g.H.Host.answers c.args.host.now) (g.C.Catalogue.layouts c.args.c.now) c.args.variables.now c.args.constants.now c.args.block.now c.args.source c.args.nodes.now in
-    let p = err_from_is_err_and c.from-residual.result c.from-residual.ensures.1 in
-    front_stops f c.args.out.now c.loop-k.out c.loop-k.out c.loop-k.k c.args.count c.in-err-value.field_0.0 p.0 c.from-residual.result c.loop-k-test.true c.in-err-value.ensures p.1 p.2 c.loop-k.invariant
+    let p = err_from_is_err_and c.from_residual.result c.from_residual.ensures.1 in
+    front_stops f c.args.out.now c.loop-k.out c.loop-k.out c.loop-k.k c.args.count c.in_err-value.field-0.0 p.0 c.from_residual.result c.loop-k-test.true c.in_err-value.ensures p.1 p.2 c.loop-k.invariant
 
 pub loop-k-preserved : goal.loop-k-preserved
 loop-k-preserved g c =
     let f = value_by (g.H.Host.answers c.args.host.now) (g.C.Catalogue.layouts c.args.c.now) c.args.variables.now c.args.constants.now c.args.block.now c.args.source c.args.nodes.now in
-    front_more f c.args.out.now c.loop-k.out c.loop-k.k c.in-ok-value.value (omega arith) c.in-ok-value.ensures c.loop-k.invariant
+    front_more f c.args.out.now c.loop-k.out c.loop-k.k c.in_ok-value.value (omega arith) c.in_ok-value.ensures c.loop-k.invariant
 
 pub returns : goal.returns
 returns g c =

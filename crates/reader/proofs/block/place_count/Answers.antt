@@ -18,4 +18,4 @@ scalar ls n f e =
     ap count (sym (get_or_past ls n blank h))
 
 pub returns-in-Err : goal.returns-in-Err
-returns-in-Err g c = scalar (g.C.Catalogue.layouts c.args.catalogue.now) c.args.layout c.in-Err.field_0 c.in-Err.ensures
+returns-in-Err g c = scalar (g.C.Catalogue.layouts c.args.catalogue.now) c.args.layout c.in-Err.field-0 c.in-Err.ensures

@@ -7,11 +7,11 @@ use Rattle.report.proofs.facts.put_facts.Goals as goal
 
 pub loop-layout-preserved : goal.loop-layout-preserved
 loop-layout-preserved g c =
-    more_counted (layout_fact_of (g.C.Catalogue.layouts c.args.c.now)) c.loop-layout.layout _ _ _ c.loop-layout.invariant c.in-ok-put-layout.ensures
+    more_counted (layout_fact_of (g.C.Catalogue.layouts c.args.c.now)) c.loop-layout.layout _ _ _ c.loop-layout.invariant c.in_ok-put_layout.ensures
 
 pub loop-question-preserved : goal.loop-question-preserved
 loop-question-preserved g c =
-    more_joined (question_fact (g.C.Catalogue.layouts c.args.c.now)) c.args.questions.now c.loop-question.question_index _ _ _ _ c.loop-question-test.true c.loop-question.invariant c.in-ok-put-question.ensures
+    more_joined (question_fact (g.C.Catalogue.layouts c.args.c.now)) c.args.questions.now c.loop-question.question_index _ _ _ _ c.loop-question-test.true c.loop-question.invariant c.in_ok-put_question.ensures
 
 pub returns : goal.returns
 returns g c =

@@ -10,11 +10,11 @@ loop-word-preserved c =
     let word = c.in-Some.word.now in (
       old.0 ++ (word ∷ []),
       old.1 ∙ ap (λ l. old.0 ++ l) c.in-Some.ensures.takes ∙ sym (append_assoc old.0 (word ∷ []) _),
-      c.in-ok-write.ensures.bytes ∙ ap (λ l. l ++ before_blank word) old.2 ∙ flat_map_more before_blank _ old.0 word,
+      c.in_ok-write.ensures.bytes ∙ ap (λ l. l ++ before_blank word) old.2 ∙ flat_map_more before_blank _ old.0 word,
     )
 
 pub returns : goal.returns
 returns c =
     let old = c.loop-word.invariant in
-    let all = sym c.new-words.ensures.0 ∙ old.1 ∙ ap (λ l. old.0 ++ l) c.in-default.ensures.takes.0 ∙ append-nil old.0 in
+    let all = sym c.new-words.ensures.0 ∙ old.1 ∙ ap (λ l. old.0 ++ l) c.in_default.ensures.takes.0 ∙ append-nil old.0 in
     old.2 ∙ ap (λ l. string_bytes c.args.out.now ++ flat_map before_blank l) (sym all)

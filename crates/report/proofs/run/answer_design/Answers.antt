@@ -4,16 +4,16 @@ use Rattle.table.specs.Records.{table_layouts}
 use Rattle.report.specs.Runs.{records, Told}
 use Rattle.report.proofs.run.answer_design.Goals as goal
 
-pub check-layouts-requires : goal.check-layouts-requires
-check-layouts-requires c =
-    c.as-slice-3.ensures.value ∙ c.in-ok-records.ensures ∙ ap records (c.as-slice.ensures.value ∙ sym c.as-slice-2.ensures.value)
+pub check_layouts-requires : goal.check_layouts-requires
+check_layouts-requires c =
+    c.as_slice-3.ensures.value ∙ c.in_ok-records.ensures ∙ ap records (c.as_slice.ensures.value ∙ sym c.as_slice-2.ensures.value)
 
 pub returns : goal.returns
 returns c =
-    let d = c.in-ok-design.design in
+    let d = c.in_ok-design.design in
     let form = c.args.form in
-    let given = c.as-slice-5.result.now in
-    let same : given ≡ records (vec_items d.layouts) = c.as-slice-5.ensures.value ∙ c.in-ok-records.ensures ∙ ap records c.as-slice.ensures.value in
+    let given = c.as_slice-5.result.now in
+    let same : given ≡ records (vec_items d.layouts) = c.as_slice-5.ensures.value ∙ c.in_ok-records.ensures ∙ ap records c.as_slice.ensures.value in
     IfOk-weaker c.answers.result (λ s. Told form (table_layouts (vec_items d.pool) given) (vec_items d.questions) [] (string_bytes s)) _
-    (λ s told. (d, c.in-ok-design.ensures, subst (λ rs. Told form (table_layouts (vec_items d.pool) rs) (vec_items d.questions) [] (string_bytes s)) same told))
+    (λ s told. (d, c.in_ok-design.ensures, subst (λ rs. Told form (table_layouts (vec_items d.pool) rs) (vec_items d.questions) [] (string_bytes s)) same told))
     c.answers.ensures

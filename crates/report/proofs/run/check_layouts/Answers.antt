@@ -2,8 +2,8 @@ use Rattle.std.proofs.Common.{◌≡◌, length, ap, ◌∙◌, arith}
 use lib.ListN.{length-map}
 use Rattle.report.proofs.run.check_layouts.Goals as goal
 
-pub broken-layout-requires : goal.broken-layout-requires
-broken-layout-requires c =
+pub broken_layout-requires : goal.broken_layout-requires
+broken_layout-requires c =
     let told = c.in-Err-Faulty.ensures in
     let here : c.in-Err-Faulty.record ≡ told.0 = cc told.2 in
     let many = ap length c.requires ∙ length-map c.args.lines.now (λ l. l.layout) in

@@ -5,7 +5,7 @@ use Rattle.report.proofs.run.collect_records.Goals as goal
 
 pub loop-line-preserved : goal.loop-line-preserved
 loop-line-preserved c =
-    pushed (_ ∷ []) c.loop-line.invariant c.in-ok-push.was c.push.ensures.items
+    pushed (_ ∷ []) c.loop-line.invariant c.in_ok-push.was c.push.ensures.items
     ∙ sym (map_more (λ x. x.layout) c.args.lines.now c.loop-line.line_index _ c.loop-line-test.true)
 
 pub returns : goal.returns

@@ -12,11 +12,11 @@ pub loop-i-preserved : goal.loop-i-preserved
 loop-i-preserved g c = (
   omega arith,
   λ show shows.
-      let gap = c.gap-before-gap.result.now in
+      let gap = c.gap_before-gap.result.now in
       let item = c.index-items-i.result in
-      let w = written (string_bytes c.loop-i.out) (string_bytes c.write.new.self) (gap ++ show item) c.in-ok-write.ensures.bytes (simp shows) in
+      let w = written (string_bytes c.loop-i.out) (string_bytes c.write.new.self) (gap ++ show item) c.in_ok-write.ensures.bytes (simp shows) in
       more_separated show c.args.between.now c.args.items.now c.loop-i.i item _ _ _ c.loop-i-test.true (c.loop-i.invariant.1 show shows)
-      (w ∙ ap (λ l. string_bytes c.loop-i.out ++ (l ++ show item)) c.gap-before-gap.ensures ∙ ap (λ x. string_bytes c.loop-i.out ++ (cond (ltb 0 c.loop-i.i) c.args.between.now [] ++ show x)) c.index-items-i.is),
+      (w ∙ ap (λ l. string_bytes c.loop-i.out ++ (l ++ show item)) c.gap_before-gap.ensures ∙ ap (λ x. string_bytes c.loop-i.out ++ (cond (ltb 0 c.loop-i.i) c.args.between.now [] ++ show x)) c.index-items-i.is),
 )
 
 pub returns : goal.returns

@@ -20,9 +20,9 @@ pub returns : goal.returns
 returns g c =
     let ls = g.C.Catalogue.layouts c.args.c.now in
     let xs = entries_of ls c.args.t c.args.source c.args.via c.args.start c.args.target in
-    let slice = c.as-mut-slice.result.now in
-    let long : length slice ≡ length xs = c.as-mut-slice.ensures.len ∙ c.in-ok-table.ensures.len ∙ c.data-len.ensures ∙ sym c.requires.long in
+    let slice = c.as_mut_slice.result.now in
+    let long : length slice ≡ length xs = c.as_mut_slice.ensures.len ∙ c.in_ok-table.ensures.len ∙ c.data_len.ensures ∙ sym c.requires.long in
     let room : leb (0 + length xs) (length slice) ≡ true = le-leb (0 + length xs) (length slice) (omega arith) in
-    let ends = c.to-data-layout.ensures.answer ∙ sym (appends ls c.args.t c.args.source c.args.via c.args.target c.args.start (length slice) 0 true c.requires.source c.requires.via c.requires.target room) in
-    let is : c.to-data-layout.new.table ≡ xs = c.to-data-layout.ensures.written ∙ ap (λ r. appended r slice 0 xs) ends ∙ filled slice xs long in
-    kept c.to-data-layout.new.table c.in-ok-table.table.items c.in-ok-table.table.len (sym c.in-ok-table.table.ok.0) (ap length is ∙ sym long ∙ c.as-mut-slice.ensures.len) ∙ is
+    let ends = c.to_data_layout.ensures.answer ∙ sym (appends ls c.args.t c.args.source c.args.via c.args.target c.args.start (length slice) 0 true c.requires.source c.requires.via c.requires.target room) in
+    let is : c.to_data_layout.new.table ≡ xs = c.to_data_layout.ensures.written ∙ ap (λ r. appended r slice 0 xs) ends ∙ filled slice xs long in
+    kept c.to_data_layout.new.table c.in_ok-table.table.items c.in_ok-table.table.len (sym c.in_ok-table.table.ok.0) (ap length is ∙ sym long ∙ c.as_mut_slice.ensures.len) ∙ is

@@ -5,18 +5,18 @@ use Rattle.report.specs.Facts.{separated}
 use Rattle.report.specs.Translations.{destinations_fact}
 use Rattle.report.proofs.translation.put_destinations.Goals as goal
 
-pub returns-in-ok-put-text : goal.returns-in-ok-put-text
-returns-in-ok-put-text c =
+pub returns-in_ok-put_text : goal.returns-in_ok-put_text
+returns-in_ok-put_text c =
     let out = string_bytes c.args.out.now in
     let ends = decimal c.in-Contiguous.start ++ (codes " " ++ decimal c.in-Contiguous.end) in
-    IfOk-weaker c.put-ends.result _ _
-    (λ _ h. h ∙ ap (λ l. l ++ ends) c.in-ok-put-text.ensures ∙ append_assoc out (codes "contiguous ") ends ∙ ap (λ t. out ++ destinations_fact t c.args.list.now) (sym c.in-Contiguous.is))
-    c.put-ends.ensures
+    IfOk-weaker c.put_ends.result _ _
+    (λ _ h. h ∙ ap (λ l. l ++ ends) c.in_ok-put_text.ensures ∙ append_assoc out (codes "contiguous ") ends ∙ ap (λ t. out ++ destinations_fact t c.args.list.now) (sym c.in-Contiguous.is))
+    c.put_ends.ensures
 
-pub returns-in-ok-put-text-2 : goal.returns-in-ok-put-text-2
-returns-in-ok-put-text-2 c =
+pub returns-in_ok-put_text-2 : goal.returns-in_ok-put_text-2
+returns-in_ok-put_text-2 c =
     let out = string_bytes c.args.out.now in
     let list = separated (codes " ") (map signed_decimal c.args.list.now) in
-    IfOk-weaker c.put-entries.result _ _
-    (λ _ h. h ∙ ap (λ l. l ++ list) c.in-ok-put-text-2.ensures ∙ append_assoc out (codes "listed ") list ∙ ap (λ t. out ++ destinations_fact t c.args.list.now) (sym c.in-Listed.is))
-    c.put-entries.ensures
+    IfOk-weaker c.put_entries.result _ _
+    (λ _ h. h ∙ ap (λ l. l ++ list) c.in_ok-put_text-2.ensures ∙ append_assoc out (codes "listed ") list ∙ ap (λ t. out ++ destinations_fact t c.args.list.now) (sym c.in-Listed.is))
+    c.put_entries.ensures

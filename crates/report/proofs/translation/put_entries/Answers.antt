@@ -8,4 +8,4 @@ use Rattle.report.proofs.translation.put_entries.Goals as goal
 pub returns : goal.returns
 returns c =
     let xs = c.args.entries.now in
-    IfOk-weaker c.put-joined.result _ _ (λ _ h. h signed_decimal (λ x. refl) ∙ ap (λ ys. string_bytes c.args.out.now ++ separated (codes " ") (map signed_decimal ys)) (take_all (length xs) xs (omega arith))) c.put-joined.ensures
+    IfOk-weaker c.put_joined.result _ _ (λ _ h. h signed_decimal (λ x. refl) ∙ ap (λ ys. string_bytes c.args.out.now ++ separated (codes " ") (map signed_decimal ys)) (take_all (length xs) xs (omega arith))) c.put_joined.ensures

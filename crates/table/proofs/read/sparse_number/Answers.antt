@@ -5,11 +5,11 @@ use Rattle.table.proofs.Truths.{sparsely, ascends}
 use Rattle.table.proofs.Lookups.{search_none, search_some}
 use Rattle.table.proofs.read.sparse_number.Goals as goal
 
-pub returns-in-err-e : goal.returns-in-err-e
-returns-in-err-e c =
+pub returns-in_err-e : goal.returns-in_err-e
+returns-in_err-e c =
     let n : length c.args.r.lengths ≡ 4 = search rules in
-    let is = c.padded.ensures ∙ ap (λ g. fours (grid_shape g)) c.grid-of.ensures in
-    c.from-residual.ensures ∙ search_none c.args.pool.now c.args.r c.requires n c.padded.result is c.args.index c.in-err-e.ensures
+    let is = c.padded.ensures ∙ ap (λ g. fours (grid_shape g)) c.grid_of.ensures in
+    c.from_residual.ensures ∙ search_none c.args.pool.now c.args.r c.requires n c.padded.result is c.args.index c.in_err-e.ensures
 
 pub search-requires : goal.search-requires
 search-requires c =
@@ -19,5 +19,5 @@ search-requires c =
 pub returns : goal.returns
 returns c =
     let n : length c.args.r.lengths ≡ 4 = search rules in
-    let is = c.padded.ensures ∙ ap (λ g. fours (grid_shape g)) c.grid-of.ensures in
-    search_some c.args.pool.now c.args.r c.requires n c.padded.result is c.args.index c.in-ok-e.e c.search.result c.in-ok-e.ensures c.search.ensures
+    let is = c.padded.ensures ∙ ap (λ g. fours (grid_shape g)) c.grid_of.ensures in
+    search_some c.args.pool.now c.args.r c.requires n c.padded.result is c.args.index c.in_ok-e.e c.search.result c.in_ok-e.ensures c.search.ensures

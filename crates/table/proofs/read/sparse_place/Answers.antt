@@ -8,11 +8,11 @@ use Rattle.table.specs.Records.{record_place, sparse_layout, place_of}
 use Rattle.table.proofs.Truths.{sparsely, entry_small}
 use Rattle.table.proofs.read.sparse_place.Goals as goal
 
-pub place-at-requires : goal.place-at-requires
-place-at-requires c = record { held = (sparsely c.args.pool.now c.args.r c.requires).held; there = search rules }
+pub place_at-requires : goal.place_at-requires
+place_at-requires c = record { held = (sparsely c.args.pool.now c.args.r c.requires).held; there = search rules }
 
-pub as-index-requires : goal.as-index-requires
-as-index-requires c i = subst (λ t. get_or t i 0 < 65536) (sym c.place-at.ensures) (entry_small c.args.pool.now c.args.r c.requires c.args.number (search rules) i)
+pub as_index-requires : goal.as_index-requires
+as_index-requires c i = subst (λ t. get_or t i 0 < 65536) (sym c.place_at.ensures) (entry_small c.args.pool.now c.args.r c.requires c.args.number (search rules) i)
 
 pub returns-then-number-r : goal.returns-then-number-r
 returns-then-number-r c =
@@ -21,7 +21,7 @@ returns-then-number-r c =
     let k = length-map-range_with_len (record_place c.args.pool.now c.args.r) 0 c.args.r.count in
     let t : ltb c.args.number (count l) ≡ true = lt-ltb c.args.number (count l) (omega arith) in
     let p = get_or-map-range_with_len (record_place c.args.pool.now c.args.r) 0 c.args.r.count c.args.number c.args.number origin h (omega arith) in
-    let e = c.as-index.ensures ∙ ap (λ t. index_of (place_of t)) c.place-at.ensures ∙ ap index_of (sym p) in
+    let e = c.as_index.ensures ∙ ap (λ t. index_of (place_of t)) c.place_at.ensures ∙ ap index_of (sym p) in
     ap (λ x. (x, true)) e ∙ ap (λ b. cond b (index_of (at l c.args.number), true) (index_of origin, false)) (sym t)
 
 pub returns-else-number-r : goal.returns-else-number-r

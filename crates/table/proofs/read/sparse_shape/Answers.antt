@@ -14,5 +14,5 @@ returns c =
     let h = (sparsely pool c.args.r c.requires).high in
     let k = length-map-range_with_len (record_place pool c.args.r) 0 c.args.r.count in
     let m : length (take c.args.r.rank c.args.r.lengths) ≡ c.args.r.rank = simp length-take (omega arith) in
-    let p = c.padded-lengths.ensures ∙ ap (λ g. fours (grid_shape g)) c.grid-of.ensures in
+    let p = c.padded-lengths.ensures ∙ ap (λ g. fours (grid_shape g)) c.grid_of.ensures in
     cc

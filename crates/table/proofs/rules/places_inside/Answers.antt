@@ -9,15 +9,15 @@ pub loop-k-preserved : goal.loop-k-preserved
 loop-k-preserved c =
     let r = c.args.r in
     let pool = c.args.pool.now in
-    let e = inside_read c.padded-n.result (record_shape r) c.place-at.result (record_place pool r c.loop-k.k) (c.padded-n.ensures ∙ ap (λ g. fours (grid_shape g)) c.grid-of.ensures) c.place-at.ensures in
-    each_more (λ k. inside_test (record_shape r) (record_place pool r k)) c.loop-k.k c.loop-k.invariant (sym (c.if-not-is-inside.ensures ∙ e))
+    let e = inside_read c.padded-n.result (record_shape r) c.place_at.result (record_place pool r c.loop-k.k) (c.padded-n.ensures ∙ ap (λ g. fours (grid_shape g)) c.grid_of.ensures) c.place_at.ensures in
+    each_more (λ k. inside_test (record_shape r) (record_place pool r k)) c.loop-k.k c.loop-k.invariant (sym (c.if-not-is_inside.ensures ∙ e))
 
-pub returns-then-not-is-inside : goal.returns-then-not-is-inside
-returns-then-not-is-inside c =
+pub returns-then-not-is_inside : goal.returns-then-not-is_inside
+returns-then-not-is_inside c =
     let r = c.args.r in
     let pool = c.args.pool.now in
-    let e = inside_read c.padded-n.result (record_shape r) c.place-at.result (record_place pool r c.loop-k.k) (c.padded-n.ensures ∙ ap (λ g. fours (grid_shape g)) c.grid-of.ensures) c.place-at.ensures in
-    sym (each_not (λ k. inside_test (record_shape r) (record_place pool r k)) r.count c.loop-k.k c.loop-k-test.true (sym (c.if-not-is-inside.ensures ∙ e)))
+    let e = inside_read c.padded-n.result (record_shape r) c.place_at.result (record_place pool r c.loop-k.k) (c.padded-n.ensures ∙ ap (λ g. fours (grid_shape g)) c.grid_of.ensures) c.place_at.ensures in
+    sym (each_not (λ k. inside_test (record_shape r) (record_place pool r k)) r.count c.loop-k.k c.loop-k-test.true (sym (c.if-not-is_inside.ensures ∙ e)))
 
 pub returns : goal.returns
 returns c =

@@ -3,14 +3,14 @@ use Rattle.std.proofs.lemmas.Bool.{false≢true, true≢false}
 use Rattle.translation.proofs.Fronts.{take_same, take_at_same}
 use Rattle.translation.proofs.agree.agree.Goals as goal
 
-pub returns-then-not-same-at : goal.returns-then-not-same-at
-returns-then-not-same-at c = (
+pub returns-then-not-same_at : goal.returns-then-not-same_at
+returns-then-not-same_at c = (
   λ e. absurd (false≢true e),
-  λ e. absurd (false≢true (sym c.if-not-same-at.true ∙ c.same-at.ensures.1 (λ h. take_at_same c.args.m c.args.p c.args.q c.loop-i.i (pos 0) h e))),
+  λ e. absurd (false≢true (sym c.if-not-same_at.true ∙ c.same_at.ensures.1 (λ h. take_at_same c.args.m c.args.p c.args.q c.loop-i.i (pos 0) h e))),
 )
 
 pub loop-i-preserved : goal.loop-i-preserved
-loop-i-preserved c = below_more (λ k. k < c.args.m → get_or c.args.p k (pos 0) ≡ get_or c.args.q k (pos 0)) _ c.loop-i.invariant (c.same-at.ensures.0 c.if-not-same-at.false)
+loop-i-preserved c = below_more (λ k. k < c.args.m → get_or c.args.p k (pos 0) ≡ get_or c.args.q k (pos 0)) _ c.loop-i.invariant (c.same_at.ensures.0 c.if-not-same_at.false)
 
 pub returns : goal.returns
 returns c =

@@ -4,15 +4,15 @@ use Rattle.layout.specs.Layouts.{blank, count}
 use Rattle.translation.proofs.Covering.{agrees_true, agrees_false, reached_more, reached_all, begin, goes_on, ends}
 use Rattle.translation.proofs.agree.covers.Goals as goal
 
-pub returns-then-not-places-agree : goal.returns-then-not-places-agree
-returns-then-not-places-agree g c =
+pub returns-then-not-places_agree : goal.returns-then-not-places_agree
+returns-then-not-places_agree g c =
     let ls = g.C.Catalogue.layouts c.args.catalogue.now in
-    (λ e. absurd (false≢true e), λ d. absurd (agrees_false c.args.m _ _ (sym c.places-agree.ensures ∙ c.if-not-places-agree.true) (begin c.args.m (get_or ls c.args.long blank) (get_or ls c.args.short blank) (c.requires.valid _ c.requires.long) (c.requires.valid _ c.requires.short) c.requires.ranked d)))
+    (λ e. absurd (false≢true e), λ d. absurd (agrees_false c.args.m _ _ (sym c.places_agree.ensures ∙ c.if-not-places_agree.true) (begin c.args.m (get_or ls c.args.long blank) (get_or ls c.args.short blank) (c.requires.valid _ c.requires.long) (c.requires.valid _ c.requires.short) c.requires.ranked d)))
 
-pub returns-in-default : goal.returns-in-default
-returns-in-default g c =
+pub returns-in_default : goal.returns-in_default
+returns-in_default g c =
     let ls = g.C.Catalogue.layouts c.args.catalogue.now in
-    let no = c.in-default.ensures in
+    let no = c.in_default.ensures in
     let n : c.loop-i.i < count (get_or ls c.args.long blank) = omega (arith, c.requires.long_counted, c.loop-i-test.true) in
     (λ e. absurd (false≢true e), λ d. absurd (goes_on c.args.m (get_or ls c.args.long blank) (get_or ls c.args.short blank) (c.requires.valid _ c.requires.long) (c.requires.valid _ c.requires.short) c.requires.ranked d c.loop-i.i c.loop-i.j c.loop-i.invariant n (agrees_false _ _ _ no.0) (λ h. agrees_false _ _ _ (no.1 h))))
 

@@ -18,45 +18,45 @@ long t s v x g r n f to er en ef et =
     let e = ap (to_count t.to) en in
     omega arith
 
-pub from-len-requires : goal.from-len-requires
-from-len-requires g c =
+pub from_len-requires : goal.from_len-requires
+from_len-requires g c =
     let ls = g.C.Catalogue.layouts c.args.catalogue.now in
-    let ms = measured_says ls c.args.source c.in-ok-s.s c.in-ok-s.ensures.is in
-    let valid = c.in-ok-s.ensures.valid _ ms.0 in
+    let ms = measured_says ls c.args.source c.in_ok-s.s c.in_ok-s.ensures.is in
+    let valid = c.in_ok-s.ensures.valid _ ms.0 in
     let n = ap (λ (s : Shape). s.count) ms.1 in
     record { known = ms.0; counted = n; some = omega (arith, valid.some); few = omega (arith, valid.many) }
 
-pub overflow-add-need : goal.overflow-add-need
-overflow-add-need g c =
+pub overflow_add-need : goal.overflow_add-need
+overflow_add-need g c =
     let ls = g.C.Catalogue.layouts c.args.catalogue.now in
-    let mv = measured_says ls c.args.via c.in-ok-v.v c.in-ok-v.ensures.is in
+    let mv = measured_says ls c.args.via c.in_ok-v.v c.in_ok-v.ensures.is in
     let n = ap (λ (s : Shape). s.count) mv.1 in
-    omega (arith, (c.in-ok-v.ensures.valid _ mv.0).many, c.from-len.ensures.bound, c.to-len.ensures.bound)
+    omega (arith, (c.in_ok-v.ensures.valid _ mv.0).many, c.from_len.ensures.bound, c.to_len.ensures.bound)
 
-pub returns-then-not-has-room : goal.returns-then-not-has-room
-returns-then-not-has-room g c =
+pub returns-then-not-has_room : goal.returns-then-not-has_room
+returns-then-not-has_room g c =
     let ls = g.C.Catalogue.layouts c.args.catalogue.now in
-    let ms = measured_says ls c.args.source c.in-ok-s.s c.in-ok-s.ensures.is in
-    let mv = measured_says ls c.args.via c.in-ok-v.v c.in-ok-v.ensures.is in
-    let mt = measured_says ls c.args.target c.in-ok-measured.field_0 c.in-ok-measured.ensures.is in
-    let n = long c.args.translation (get_or ls c.args.source blank) (get_or ls c.args.via blank) c.args.start (get_or ls c.args.target blank) _ _ _ _ (ap (λ (s : Shape). s.rank) mv.1) (ap (λ (s : Shape). s.count) mv.1) c.from-len.ensures.is c.to-len.ensures.is in
-    record { answer = appends ls c.args.translation c.args.source c.args.via c.args.target c.args.start (length c.args.table.now) c.args.at false ms.0 mv.0 mt.0 (ap (λ m. leb (c.args.at + m) (length c.args.table.now)) (sym n) ∙ sym c.has-room.ensures ∙ c.if-not-has-room.true); written = refl }
+    let ms = measured_says ls c.args.source c.in_ok-s.s c.in_ok-s.ensures.is in
+    let mv = measured_says ls c.args.via c.in_ok-v.v c.in_ok-v.ensures.is in
+    let mt = measured_says ls c.args.target c.in_ok-measured.field-0 c.in_ok-measured.ensures.is in
+    let n = long c.args.translation (get_or ls c.args.source blank) (get_or ls c.args.via blank) c.args.start (get_or ls c.args.target blank) _ _ _ _ (ap (λ (s : Shape). s.rank) mv.1) (ap (λ (s : Shape). s.count) mv.1) c.from_len.ensures.is c.to_len.ensures.is in
+    record { answer = appends ls c.args.translation c.args.source c.args.via c.args.target c.args.start (length c.args.table.now) c.args.at false ms.0 mv.0 mt.0 (ap (λ m. leb (c.args.at + m) (length c.args.table.now)) (sym n) ∙ sym c.has_room.ensures ∙ c.if-not-has_room.true); written = refl }
 
-pub write-entries-requires : goal.write-entries-requires
-write-entries-requires g c =
+pub write_entries-requires : goal.write_entries-requires
+write_entries-requires g c =
     let ls = g.C.Catalogue.layouts c.args.catalogue.now in
-    let ms = measured_says ls c.args.source c.in-ok-s.s c.in-ok-s.ensures.is in
-    let mv = measured_says ls c.args.via c.in-ok-v.v c.in-ok-v.ensures.is in
-    let mt = measured_says ls c.args.target c.in-ok-measured.field_0 c.in-ok-measured.ensures.is in
-    let n = long c.args.translation (get_or ls c.args.source blank) (get_or ls c.args.via blank) c.args.start (get_or ls c.args.target blank) _ _ _ _ (ap (λ (s : Shape). s.rank) mv.1) (ap (λ (s : Shape). s.count) mv.1) c.from-len.ensures.is c.to-len.ensures.is in
-    let h = leb-true _ _ (sym c.has-room.ensures ∙ c.if-not-has-room.false) in
-    record { valid = c.in-ok-s.ensures.valid; source = ms.0; via = mv.0; target = mt.0; room = omega arith }
+    let ms = measured_says ls c.args.source c.in_ok-s.s c.in_ok-s.ensures.is in
+    let mv = measured_says ls c.args.via c.in_ok-v.v c.in_ok-v.ensures.is in
+    let mt = measured_says ls c.args.target c.in_ok-measured.field-0 c.in_ok-measured.ensures.is in
+    let n = long c.args.translation (get_or ls c.args.source blank) (get_or ls c.args.via blank) c.args.start (get_or ls c.args.target blank) _ _ _ _ (ap (λ (s : Shape). s.rank) mv.1) (ap (λ (s : Shape). s.count) mv.1) c.from_len.ensures.is c.to_len.ensures.is in
+    let h = leb-true _ _ (sym c.has_room.ensures ∙ c.if-not-has_room.false) in
+    record { valid = c.in_ok-s.ensures.valid; source = ms.0; via = mv.0; target = mt.0; room = omega arith }
 
 pub returns : goal.returns
 returns g c =
     let ls = g.C.Catalogue.layouts c.args.catalogue.now in
-    let ms = measured_says ls c.args.source c.in-ok-s.s c.in-ok-s.ensures.is in
-    let mv = measured_says ls c.args.via c.in-ok-v.v c.in-ok-v.ensures.is in
-    let mt = measured_says ls c.args.target c.in-ok-measured.field_0 c.in-ok-measured.ensures.is in
-    let n = long c.args.translation (get_or ls c.args.source blank) (get_or ls c.args.via blank) c.args.start (get_or ls c.args.target blank) _ _ _ _ (ap (λ (s : Shape). s.rank) mv.1) (ap (λ (s : Shape). s.count) mv.1) c.from-len.ensures.is c.to-len.ensures.is in
-    record { answer = ap Ok c.write-entries.ensures.end ∙ appends ls c.args.translation c.args.source c.args.via c.args.target c.args.start (length c.args.table.now) c.args.at true ms.0 mv.0 mt.0 (ap (λ m. leb (c.args.at + m) (length c.args.table.now)) (sym n) ∙ sym c.has-room.ensures ∙ c.if-not-has-room.false); written = c.write-entries.ensures.written }
+    let ms = measured_says ls c.args.source c.in_ok-s.s c.in_ok-s.ensures.is in
+    let mv = measured_says ls c.args.via c.in_ok-v.v c.in_ok-v.ensures.is in
+    let mt = measured_says ls c.args.target c.in_ok-measured.field-0 c.in_ok-measured.ensures.is in
+    let n = long c.args.translation (get_or ls c.args.source blank) (get_or ls c.args.via blank) c.args.start (get_or ls c.args.target blank) _ _ _ _ (ap (λ (s : Shape). s.rank) mv.1) (ap (λ (s : Shape). s.count) mv.1) c.from_len.ensures.is c.to_len.ensures.is in
+    record { answer = ap Ok c.write_entries.ensures.end ∙ appends ls c.args.translation c.args.source c.args.via c.args.target c.args.start (length c.args.table.now) c.args.at true ms.0 mv.0 mt.0 (ap (λ m. leb (c.args.at + m) (length c.args.table.now)) (sym n) ∙ sym c.has_room.ensures ∙ c.if-not-has_room.false); written = c.write_entries.ensures.written }

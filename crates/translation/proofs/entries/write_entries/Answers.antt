@@ -7,8 +7,8 @@ use Rattle.translation.specs.Entries.{from_entries, to_entries}
 use Rattle.translation.proofs.Entering.{shape_known, both_parts}
 use Rattle.translation.proofs.entries.write_entries.Goals as goal
 
-pub write-from-listed-requires : goal.write-from-listed-requires
-write-from-listed-requires g c =
+pub write_from-listed-requires : goal.write_from-listed-requires
+write_from-listed-requires g c =
     let ls = g.C.Catalogue.layouts c.args.catalogue.now in
     let l = get_or ls c.args.source blank in
     let r = get_or ls c.args.via blank in
@@ -21,8 +21,8 @@ write-from-listed-requires g c =
     let a = length-append (from_entries c.args.translation.from l (rank r)) (to_entries c.args.translation.to d (count r)) in
     record { known = c.requires.source; counted = es; some = omega arith; few = omega arith; room = omega (arith, c.requires.room) }
 
-pub write-to-requires : goal.write-to-requires
-write-to-requires g c =
+pub write_to-requires : goal.write_to-requires
+write_to-requires g c =
     let ls = g.C.Catalogue.layouts c.args.catalogue.now in
     let l = get_or ls c.args.source blank in
     let r = get_or ls c.args.via blank in
@@ -33,7 +33,7 @@ write-to-requires g c =
     let f = ap (λ n. length (from_entries c.args.translation.from l n)) ev in
     let h = ap (λ n. length (to_entries c.args.translation.to d n)) en in
     let a = length-append (from_entries c.args.translation.from l (rank r)) (to_entries c.args.translation.to d (count r)) in
-    record { valid = c.requires.valid; via = c.requires.via; target = c.requires.target; counted = en; room = omega (arith, c.requires.room, c.write-from-listed.ensures.end) }
+    record { valid = c.requires.valid; via = c.requires.via; target = c.requires.target; counted = en; room = omega (arith, c.requires.room, c.write_from-listed.ensures.end) }
 
 pub returns : goal.returns
 returns g c =
@@ -46,9 +46,9 @@ returns g c =
     let en : c.in-Ok-shape.v.count ≡ count r = ap (λ (s : Shape). s.count) v in
     let xs = λ (n : ℕ). from_entries c.args.translation.from l n in
     let ys = λ (n : ℕ). to_entries c.args.translation.to d n in
-    let h = both_parts c.args.table.now c.write-from-listed.new.table c.write-to.new.table (xs (rank r)) (ys (count r)) c.args.at c.write-from-listed.result c.write-to.result c.requires.room
-    (subst (λ n. c.write-from-listed.result ≡ c.args.at + length (xs n)) ev c.write-from-listed.ensures.end)
-    (subst (λ n. c.write-from-listed.new.table ≡ paste c.args.table.now c.args.at (xs n) (length (xs n))) ev c.write-from-listed.ensures.written)
-    (subst (λ n. c.write-to.result ≡ c.write-from-listed.result + length (ys n)) en c.write-to.ensures.end)
-    (subst (λ n. c.write-to.new.table ≡ paste c.write-from-listed.new.table c.write-from-listed.result (ys n) (length (ys n))) en c.write-to.ensures.written) in
+    let h = both_parts c.args.table.now c.write_from-listed.new.table c.write_to.new.table (xs (rank r)) (ys (count r)) c.args.at c.write_from-listed.result c.write_to.result c.requires.room
+    (subst (λ n. c.write_from-listed.result ≡ c.args.at + length (xs n)) ev c.write_from-listed.ensures.end)
+    (subst (λ n. c.write_from-listed.new.table ≡ paste c.args.table.now c.args.at (xs n) (length (xs n))) ev c.write_from-listed.ensures.written)
+    (subst (λ n. c.write_to.result ≡ c.write_from-listed.result + length (ys n)) en c.write_to.ensures.end)
+    (subst (λ n. c.write_to.new.table ≡ paste c.write_from-listed.new.table c.write_from-listed.result (ys n) (length (ys n))) en c.write_to.ensures.written) in
     record { end = h.0; written = h.1 }

@@ -6,8 +6,8 @@ use Rattle.translation.specs.Entries.{to_entries}
 use Rattle.translation.proofs.Entering.{nothing, destinations_long, listed}
 use Rattle.translation.proofs.entries.write_to.Goals as goal
 
-pub write-destinations-requires : goal.write-destinations-requires
-write-destinations-requires g c =
+pub write_destinations-requires : goal.write_destinations-requires
+write_destinations-requires g c =
     let ls = g.C.Catalogue.layouts c.args.catalogue.now in
     let d = destination (get_or ls c.args.via blank) c.args.start (get_or ls c.args.target blank) in
     let e = ap (λ t. length (to_entries t d c.args.count)) c.in-Listed.is ∙ destinations_long d c.args.count in
@@ -24,5 +24,5 @@ pub returns-in-Listed : goal.returns-in-Listed
 returns-in-Listed g c =
     let ls = g.C.Catalogue.layouts c.args.catalogue.now in
     let d = destination (get_or ls c.args.via blank) c.args.start (get_or ls c.args.target blank) in
-    let h = listed c.args.to d c.args.count c.args.table.now c.write-destinations.new.table c.args.at c.write-destinations.result c.in-Listed.is c.write-destinations.ensures.end c.write-destinations.ensures.written in
+    let h = listed c.args.to d c.args.count c.args.table.now c.write_destinations.new.table c.args.at c.write_destinations.result c.in-Listed.is c.write_destinations.ensures.end c.write_destinations.ensures.written in
     record { end = h.0; written = h.1 }

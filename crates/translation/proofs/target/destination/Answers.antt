@@ -22,5 +22,5 @@ returns g c =
     let p = at (get_or ls c.args.via blank) c.args.k in
     let e = place_known ls c.args.via c.args.k c.place.result c.place.ensures c.requires.via c.requires.there in
     let told : (i : ℕ) → Told c.shifted.result c.args.start c.place.result.0 i → Told c.shifted.result c.args.start (index_of p) i = λ i h. subst (λ x. Told c.shifted.result c.args.start x i) e h in
-    let f = c.number-in.ensures ∙ lands t c.shifted.result c.args.start p v (told 0 c.shifted.ensures.a) (told 1 c.shifted.ensures.b) (told 2 c.shifted.ensures.c) (told 3 c.shifted.ensures.d) in
+    let f = c.number_in.ensures ∙ lands t c.shifted.result c.args.start p v (told 0 c.shifted.ensures.a) (told 1 c.shifted.ensures.b) (told 2 c.shifted.ensures.c) (told 3 c.shifted.ensures.d) in
     record { is = f; within = subst (λ o. IfSome o (λ n. n < 65536)) (sym f) (strict_within t (shift c.args.start p) v) }

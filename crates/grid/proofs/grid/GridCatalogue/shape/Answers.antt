@@ -10,7 +10,7 @@ pub returns-then-layout-self : goal.returns-then-layout-self
 returns-then-layout-self c =
     let g = c.args.self.now in
     let n = kept_length g.shapes g.count g.few g.all in
-    ap Ok c.shape-answer.ensures ∙ asked_there (grid_layouts g.shapes g.count) c.args.layout shape_of (grid_layout (get_or g.shapes c.args.layout no_shape)) (omega (arith, c.if-layout-self.true)) (kept_at g.shapes g.count g.few g.all c.args.layout c.if-layout-self.true)
+    ap Ok c.shape_answer.ensures ∙ asked_there (grid_layouts g.shapes g.count) c.args.layout shape_of (grid_layout (get_or g.shapes c.args.layout no_shape)) (omega (arith, c.if-layout-self.true)) (kept_at g.shapes g.count g.few g.all c.args.layout c.if-layout-self.true)
 
 pub returns-else-layout-self : goal.returns-else-layout-self
 returns-else-layout-self c =

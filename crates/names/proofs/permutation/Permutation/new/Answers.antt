@@ -6,10 +6,10 @@ use Rattle.names.proofs.permutation.Permutation.new.Goals as goal
 
 pub returns : goal.returns
 returns c =
-    let p = c.letters-permuted.result in
+    let p = c.letters_permuted.result in
     let a = c.meant.ensures.value in
     let b = c.meant-2.ensures.value in
-    let s = c.letters-permuted.ensures.slots in
+    let s = c.letters_permuted.ensures.slots in
     let e : slots_of p ≡ permutation c.args.rank (letters_of c.args.block) (letters_of c.args.name) = cc in
     let is : c.packed.result ≡ packed (permutation c.args.rank (letters_of c.args.block) (letters_of c.args.name)) = c.packed.ensures ∙ ap packed (c.meant-3.ensures ∙ e) in
     record {

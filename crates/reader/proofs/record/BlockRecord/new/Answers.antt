@@ -13,20 +13,20 @@ asked p n limit goal full b r el en er eb = cc
 pub returns-then-not-has-room : goal.returns-then-not-has-room
 returns-then-not-has-room g c =
     let ls = g.C.Catalogue.layouts c.args.catalogue.now in
-    let e = c.in-ok-t.ensures.is in
+    let e = c.in_ok-t.ensures.is in
     let h = asked c.args.at (length c.args.table.now) _ _ _ false c.has-room.result c.min.ensures c.data-len.ensures c.has-room.ensures c.if-not-has-room.true in
     record {
-      answer = answers ls c.args.source c.args.via c.args.target c.args.start c.args.table.now c.args.at c.in-ok-t.t e false h;
-      table = leaves ls c.args.source c.args.via c.args.target c.args.start c.args.table.now c.args.at c.in-ok-t.t e;
+      answer = answers ls c.args.source c.args.via c.args.target c.args.start c.args.table.now c.args.at c.in_ok-t.t e false h;
+      table = leaves ls c.args.source c.args.via c.args.target c.args.start c.args.table.now c.args.at c.in_ok-t.t e;
       follows = tt;
     }
 
 pub returns : goal.returns
 returns g c =
     let ls = g.C.Catalogue.layouts c.args.catalogue.now in
-    let t = c.in-ok-t.t in
-    let e = c.in-ok-t.ensures.is in
-    let law = c.in-ok-t.ensures.lawful in
+    let t = c.in_ok-t.t in
+    let e = c.in_ok-t.ensures.is in
+    let law = c.in_ok-t.ensures.lawful in
     let h = asked c.args.at (length c.args.table.now) _ _ _ true c.has-room.result c.min.ensures c.data-len.ensures c.has-room.ensures c.if-not-has-room.false in
     let b : BlockRecord = record { from = t.from; to = t.to; via = c.place-count.result; source = c.place-count-2.result; target = c.place-count-3.result; ranges = c.args.at; list = c.args.at + c.get-to-index-in-data-layout.result } in
     let a = c.place-count.ensures in
@@ -38,5 +38,5 @@ returns g c =
     record {
       answer = ap Ok eb ∙ answers ls c.args.source c.args.via c.args.target c.args.start c.args.table.now c.args.at t e true h;
       table = w;
-      follows = follows_in ls c.args.source c.args.via c.args.target c.args.start c.args.table.now c.args.at t e b _ c.in-ok-t.ensures.valid law h eb w;
+      follows = follows_in ls c.args.source c.args.via c.args.target c.args.start c.args.table.now c.args.at t e b _ c.in_ok-t.ensures.valid law h eb w;
     }

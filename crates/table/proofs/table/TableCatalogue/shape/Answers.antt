@@ -12,7 +12,7 @@ returns-then-layout-self c =
     let rs = c.args.self.now.records.now in
     let n = kept_length pool rs in
     let h : c.args.layout < length rs = search rules in
-    ap Ok c.shape-read.ensures ∙ asked_there (table_layouts pool rs) c.args.layout shape_of (record_layout pool (get_or rs c.args.layout no_record)) (omega arith) (kept_at pool rs c.args.layout h)
+    ap Ok c.shape_read.ensures ∙ asked_there (table_layouts pool rs) c.args.layout shape_of (record_layout pool (get_or rs c.args.layout no_record)) (omega arith) (kept_at pool rs c.args.layout h)
 
 pub returns-else-layout-self : goal.returns-else-layout-self
 returns-else-layout-self c =

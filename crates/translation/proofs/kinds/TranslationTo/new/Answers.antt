@@ -4,11 +4,11 @@ use Rattle.translation.specs.Tos.{destination}
 use Rattle.translation.proofs.Going.{going_first, to_none, going_more, going_none, going_end}
 use Rattle.translation.proofs.kinds.TranslationTo.new.Goals as goal
 
-pub returns-in-default : goal.returns-in-default
-returns-in-default g c =
+pub returns-in_default : goal.returns-in_default
+returns-in_default g c =
     let ls = g.C.Catalogue.layouts c.args.catalogue.now in
     let some = (c.requires.valid _ c.requires.via).some in
-    to_none (destination (get_or ls c.args.via blank) c.args.start (get_or ls c.args.target blank)) c.args.count (omega (arith, c.requires.counted)) (sym c.in-default.ensures.is)
+    to_none (destination (get_or ls c.args.via blank) c.args.start (get_or ls c.args.target blank)) c.args.count (omega (arith, c.requires.counted)) (sym c.in_default.ensures.is)
 
 pub loop-k-init : goal.loop-k-init
 loop-k-init g c =
@@ -16,9 +16,9 @@ loop-k-init g c =
     let some = (c.requires.valid _ c.requires.via).some in
     going_first (destination (get_or ls c.args.via blank) c.args.start (get_or ls c.args.target blank)) c.args.count c.in-Some.first (omega (arith, c.requires.counted)) (sym c.in-Some.ensures.is) c.in-Some.ensures.within
 
-pub returns-in-default-destination : goal.returns-in-default-destination
-returns-in-default-destination g c =
-    going_none _ _ _ _ _ _ c.loop-k.invariant c.loop-k-test.true (sym c.in-default-destination.ensures.is)
+pub returns-in_default-destination : goal.returns-in_default-destination
+returns-in_default-destination g c =
+    going_none _ _ _ _ _ _ c.loop-k.invariant c.loop-k-test.true (sym c.in_default-destination.ensures.is)
 
 pub loop-k-preserved : goal.loop-k-preserved
 loop-k-preserved g c =
