@@ -27,7 +27,7 @@ fn fault_of(kind: IntErrorKind) -> NumberFault
 
 /// The number that a word writes in decimal, after a sign if any.
 pub fn number<N: FromStr<Err = ParseIntError>>(word: &str) -> Result<N, NumberFault>
-    ensures { (p : Result N ParseIntError) × from_str_gives word.now p × (result ≡ blamed p) }
+    ensures { (p : Result N ParseIntError) × N.from_str_gives word.now p × (result ≡ blamed p) }
 {
     match word.parse::<N>() {
         Ok(n) => Ok(n),

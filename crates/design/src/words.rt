@@ -78,7 +78,7 @@ impl<'a> Words<'a> {
         word: &'a str,
         expected: Expected,
     ) -> Result<N, Fault<'a>>
-        ensures { (p : Result N ParseIntError) × from_str_gives word.now p × MatchResult result (λ n. p ≡ Ok n) (λ f. (is_err p ≡ true) × Blames self.now.line expected f) }
+        ensures { (p : Result N ParseIntError) × N.from_str_gives word.now p × MatchResult result (λ n. p ≡ Ok n) (λ f. (is_err p ≡ true) × Blames self.now.line expected f) }
     {
         match number(word) {
             Ok(n) => Ok(n),
@@ -98,7 +98,7 @@ impl<'a> Words<'a> {
         &mut self,
         expected: Expected,
     ) -> Result<N, Fault<'a>>
-        ensures takes { IfOk result (λ n. (w : List ℕ) × (left self.old.rest ≡ w ∷ left self.new.rest) × from_str_gives w (Ok n)) }
+        ensures takes { IfOk result (λ n. (w : List ℕ) × (left self.old.rest ≡ w ∷ left self.new.rest) × N.from_str_gives w (Ok n)) }
         ensures line { self.new.line ≡ self.old.line }
     {
         let word = self.word(expected)?;
@@ -111,7 +111,7 @@ impl<'a> Words<'a> {
         heap: Global,
         expected: Expected,
     ) -> Result<Numbers<N>, Fault<'a>>
-        ensures takes { IfOk result (λ v. Numbered (λ w n. from_str_gives w (Ok n)) (left self.old.rest) v.values.items v.colon (left self.new.rest)) }
+        ensures takes { IfOk result (λ v. Numbered (λ w n. N.from_str_gives w (Ok n)) (left self.old.rest) v.values.items v.colon (left self.new.rest)) }
         ensures line { self.new.line ≡ self.old.line }
     {
         let mut values = Vec::new(heap);

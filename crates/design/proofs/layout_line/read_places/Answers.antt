@@ -1,6 +1,8 @@
-use Rattle.std.proofs.Common.{◌≡◌, [], ◌∷◌, refl, ap, ◌∙◌, subst, arith, rules}
+use Rattle.std.proofs.Common.{◌≡◌, [], ◌∷◌, codes, refl, ap, ◌∙◌, subst, arith, rules}
 use Rattle.std.specs.Str.Parse.{ParsesUnsigned}
 use Rattle.std.proofs.lemmas.Slice.{pushed}
+use Rattle.std.proofs.lemmas.Slice.Eq.{slice_eq-Decides}
+use Rattle.std.proofs.lemmas.Bool.Decides.{Decides-eqb}
 use Rattle.design.specs.Lines.{unread}
 use Rattle.design.proofs.Listing.{none_yet, few, one_entry, one_comma, listed, unlisted}
 use Rattle.design.proofs.Said.{natural_read}
@@ -15,7 +17,7 @@ overflow_add-place c = let f = few c.loop-word.invariant.2 c.loop-word.invariant
 pub loop-word-preserved-then-eq : goal.loop-word-preserved-then-eq
 loop-word-preserved-then-eq c =
     let took = c.in-Some.ensures.takes in
-    let comma = c.if-eq.ensures.0 refl in
+    let comma : c.in-Some.word.now ≡ codes "," = (slice_eq-Decides Decides-eqb _ _ _ c.if-eq.ensures).0 refl in
     let long = c.in_ok-check_place.ensures in
     (c.loop-word.invariant.0, omega arith, one_comma c.loop-word.invariant.2 _ (rw comma at took) (omega (arith, long, c.loop-word.invariant.1)))
 

@@ -7,4 +7,4 @@ use Rattle.entries.proofs.needed.is_own.Goals as goal
 pub returns : goal.returns
 returns g c =
     let ls = g.C.Catalogue.layouts c.args.c.now in
-    own_decided (get_or ls c.args.layout blank) (get_or ls c.args.source blank) (slots_of c.args.permutation.now) c.in-Ok.own_val c.in-Ok.ensures.2
+    own_decided (get_or ls c.args.layout blank) (get_or ls c.args.source blank) (slots_of c.args.permutation.now) c.in-Ok.own c.in-Ok.ensures.2

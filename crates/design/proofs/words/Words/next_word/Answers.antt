@@ -6,7 +6,7 @@ pub invariant_of-self : goal.invariant_of-self
 invariant_of-self c =
     let me = c.args.self.now in
     let s = (stepped _ _ _ (record { spelled = me.spelled; valid = me.valid }) c.next.ensures.steps).0 in
-    (s.spelled, (s.valid, tt))
+    record { spelled = s.spelled; valid = s.valid }
 
 pub returns : goal.returns
 returns c =

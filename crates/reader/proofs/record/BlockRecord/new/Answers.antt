@@ -10,11 +10,11 @@ use Rattle.reader.proofs.record.BlockRecord.new.Goals as goal
 asked : (p n limit goal full : ℕ) (b r : Bool) → limit ≡ min n 4194304 → goal ≡ full → r ≡ leb (p + goal) limit → r ≡ b → leb (p + full) (min n 4194304) ≡ b
 asked p n limit goal full b r el en er eb = cc
 
-pub returns-then-not-has-room : goal.returns-then-not-has-room
-returns-then-not-has-room g c =
+pub returns-then-not-has_room : goal.returns-then-not-has_room
+returns-then-not-has_room g c =
     let ls = g.C.Catalogue.layouts c.args.catalogue.now in
     let e = c.in_ok-t.ensures.is in
-    let h = asked c.args.at (length c.args.table.now) _ _ _ false c.has-room.result c.min.ensures c.data-len.ensures c.has-room.ensures c.if-not-has-room.true in
+    let h = asked c.args.at (length c.args.table.now) _ _ _ false c.has_room.result c.min.ensures c.data_len.ensures c.has_room.ensures c.if-not-has_room.true in
     record {
       answer = answers ls c.args.source c.args.via c.args.target c.args.start c.args.table.now c.args.at c.in_ok-t.t e false h;
       table = leaves ls c.args.source c.args.via c.args.target c.args.start c.args.table.now c.args.at c.in_ok-t.t e;
@@ -27,14 +27,14 @@ returns g c =
     let t = c.in_ok-t.t in
     let e = c.in_ok-t.ensures.is in
     let law = c.in_ok-t.ensures.lawful in
-    let h = asked c.args.at (length c.args.table.now) _ _ _ true c.has-room.result c.min.ensures c.data-len.ensures c.has-room.ensures c.if-not-has-room.false in
-    let b : BlockRecord = record { from = t.from; to = t.to; via = c.place-count.result; source = c.place-count-2.result; target = c.place-count-3.result; ranges = c.args.at; list = c.args.at + c.get-to-index-in-data-layout.result } in
-    let a = c.place-count.ensures in
-    let a2 = c.place-count-2.ensures in
-    let a3 = c.place-count-3.ensures in
-    let a4 = c.get-to-index-in-data-layout.ensures in
+    let h = asked c.args.at (length c.args.table.now) _ _ _ true c.has_room.result c.min.ensures c.data_len.ensures c.has_room.ensures c.if-not-has_room.false in
+    let b : BlockRecord = record { from = t.from; to = t.to; via = c.place_count.result; source = c.place_count-2.result; target = c.place_count-3.result; ranges = c.args.at; list = c.args.at + c.get_to_index_in_data_layout.result } in
+    let a = c.place_count.ensures in
+    let a2 = c.place_count-2.ensures in
+    let a3 = c.place_count-3.ensures in
+    let a4 = c.get_to_index_in_data_layout.ensures in
     let eb : b ≡ record_of t (get_or ls c.args.source blank) (get_or ls c.args.via blank) (get_or ls c.args.target blank) c.args.at = cc in
-    let w = fills ls c.args.source c.args.via c.args.target c.args.start c.args.table.now c.args.at t e b _ _ law h c.to-data-layout.ensures.answer c.to-data-layout.ensures.written in
+    let w = fills ls c.args.source c.args.via c.args.target c.args.start c.args.table.now c.args.at t e b _ _ law h c.to_data_layout.ensures.answer c.to_data_layout.ensures.written in
     record {
       answer = ap Ok eb ∙ answers ls c.args.source c.args.via c.args.target c.args.start c.args.table.now c.args.at t e true h;
       table = w;
