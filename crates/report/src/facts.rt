@@ -24,7 +24,7 @@ fn put_shape(out: &mut String, layout: usize, shape: Shape) -> fmt::Result
     write!(out, "layout {layout} {kind} shape")?;
     put_lengths(out, &shape.lengths, shape.rank)?;
     let count = shape.count;
-    writeln!(out, " count {count}")
+    Ok(writeln!(out, " count {count}")?)
 }
 
 // Writes the first `rank` lengths, each after a blank.
@@ -54,9 +54,9 @@ fn put_answer(out: &mut String, answer: Answer) -> fmt::Result
     ensures { OnOk result (string_bytes out.new ≡ string_bytes out.old ++ answer_fact answer) }
 {
     match answer {
-        Answer::Number(n) => write!(out, "{n}"),
+        Answer::Number(n) => Ok(write!(out, "{n}")?),
         Answer::Place { rank, index } => put_joined(out, &index, rank, " "),
-        Answer::Nothing => write!(out, "none"),
+        Answer::Nothing => Ok(write!(out, "none")?),
         Answer::Refused(fault) => put_refusal(out, fault.report()),
     }
 }
@@ -100,7 +100,7 @@ fn put_question<C: Catalogue>(
     put_words(out, question)?;
     write!(out, "-> ")?;
     put_asked(out, heap, c, question.ask)?;
-    writeln!(out)
+    Ok(writeln!(out)?)
 }
 
 /// Writes a fact for each layout, and then one for each question.

@@ -63,7 +63,7 @@ fn put_row<C: Catalogue>(
             None => write!(out, " {:>width$}", ".")?,
         }
     }
-    writeln!(out)
+    Ok(writeln!(out)?)
 }
 
 fn put_grid<C: Catalogue>(
@@ -75,7 +75,7 @@ fn put_grid<C: Catalogue>(
     columns: usize,
 ) -> fmt::Result {
     if rows > MOST_ROWS || columns > MOST_COLUMNS {
-        return writeln!(out, "    too large to draw");
+        return Ok(writeln!(out, "    too large to draw")?);
     }
     for row in 0..rows {
         put_row(out, c, layout, shape, row, columns)?;

@@ -15,7 +15,7 @@ use std::fmt;
 
 fn put_shape(out: &mut String, shape: Shape) -> fmt::Result {
     if shape.rank == 0 {
-        write!(out, "a scalar")
+        Ok(write!(out, "a scalar")?)
     } else {
         put_joined(out, &shape.lengths, shape.rank, " x ")
     }
@@ -41,34 +41,34 @@ fn put_layout<C: Catalogue>(
 fn put_index(out: &mut String, rank: usize, index: Index) -> fmt::Result {
     write!(out, "(")?;
     put_joined(out, &index, rank, ", ")?;
-    write!(out, ")")
+    Ok(write!(out, ")")?)
 }
 
 fn put_lookup(out: &mut String, how: &str, layout: usize, entries: Entries) -> fmt::Result {
     write!(out, "{how} lookup of ")?;
     put_index(out, entries.count, entries.index)?;
-    write!(out, " in layout {layout}")
+    Ok(write!(out, " in layout {layout}")?)
 }
 
 fn put_refusal(out: &mut String, report: Report) -> fmt::Result {
     let number = report.number;
     let layer = layer_name(report.layer);
     let place = report.place;
-    write!(out, "refused ({number}, {layer}, place {place}): ")
+    Ok(write!(out, "refused ({number}, {layer}, place {place}): ")?)
 }
 
 fn put_answer(out: &mut String, layout: usize, answer: Answer) -> fmt::Result {
     match answer {
-        Answer::Number(n) => write!(out, ": place {n}"),
+        Answer::Number(n) => Ok(write!(out, ": place {n}")?),
         Answer::Place { rank, index } => {
             write!(out, ": ")?;
             put_index(out, rank, index)
         }
-        Answer::Nothing => write!(out, ": no place"),
+        Answer::Nothing => Ok(write!(out, ": no place")?),
         Answer::Refused(fault) => {
             write!(out, ": ")?;
             put_refusal(out, fault.report())?;
-            write!(out, "there is no layout {layout}")
+            Ok(write!(out, "there is no layout {layout}")?)
         }
     }
 }
@@ -114,7 +114,7 @@ fn put_question<C: Catalogue>(
     let line = question.line;
     write!(out, "line {line}: ")?;
     put_asked(out, heap, c, question.ask)?;
-    writeln!(out)
+    Ok(writeln!(out)?)
 }
 
 /// Writes each layout with its line and a picture, and then each question with its answer.

@@ -21,7 +21,7 @@ pub fn put_joined<N: Display>(
     count: usize,
     between: &str,
 ) -> fmt::Result
-    ensures { OnOk result ((show : N → List ℕ) → ((x : N) → output x ≡ Some (show x)) → string_bytes out.new ≡ string_bytes out.old ++ separated between.now (map show (take count items.now))) }
+    ensures { OnOk result ((show : N → List ℕ) → ((x : N) → N.output x ≡ Some (show x)) → string_bytes out.new ≡ string_bytes out.old ++ separated between.now (map show (take count items.now))) }
 {
     for (i, item) in items.iter().enumerate() {
         if i >= count {
@@ -40,5 +40,5 @@ pub fn put_refusal(out: &mut String, report: Report) -> fmt::Result
     let number = report.number;
     let layer = layer_name(report.layer);
     let place = report.place;
-    write!(out, "refuse {number} {layer} {place}")
+    Ok(write!(out, "refuse {number} {layer} {place}")?)
 }

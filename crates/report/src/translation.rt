@@ -18,19 +18,19 @@ use translation::kinds::{Translation, TranslationFrom, TranslationTo};
 fn put_text(out: &mut String, text: &str) -> fmt::Result
     ensures { OnOk result (string_bytes out.new ≡ string_bytes out.old ++ text.now) }
 {
-    write!(out, "{text}")
+    Ok(write!(out, "{text}")?)
 }
 
 fn put_by(out: &mut String, kind: &str, by: usize) -> fmt::Result
     ensures { OnOk result (string_bytes out.new ≡ string_bytes out.old ++ (kind.now ++ (codes " by " ++ decimal by))) }
 {
-    write!(out, "{kind} by {by}")
+    Ok(write!(out, "{kind} by {by}")?)
 }
 
 fn put_long(out: &mut String, kind: &str, by: usize, long: usize) -> fmt::Result
     ensures { OnOk result (string_bytes out.new ≡ string_bytes out.old ++ (kind.now ++ (codes " by " ++ (decimal by ++ (codes " length " ++ decimal long))))) }
 {
-    write!(out, "{kind} by {by} length {long}")
+    Ok(write!(out, "{kind} by {by} length {long}")?)
 }
 
 /// Writes a kind with its axes and length, as far as it has them.
@@ -79,7 +79,7 @@ fn put_ranges(out: &mut String, ranges: &[i32]) -> fmt::Result
 fn put_ends(out: &mut String, start: usize, end: usize) -> fmt::Result
     ensures { OnOk result (string_bytes out.new ≡ string_bytes out.old ++ (decimal start ++ (codes " " ++ decimal end))) }
 {
-    write!(out, "{start} {end}")
+    Ok(write!(out, "{start} {end}")?)
 }
 
 fn put_destinations(out: &mut String, to: TranslationTo, list: &[i32]) -> fmt::Result

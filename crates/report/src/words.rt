@@ -17,50 +17,50 @@ fn put_kind(out: &mut String, from: TranslationFrom) -> fmt::Result {
         TranslationFrom::DenseContraction {
             contract_by: _,
             contract_len,
-        } => write!(
+        } => Ok(write!(
             out,
             "each run of {contract_len} elements is joined into one"
-        ),
-        TranslationFrom::DiagonalContraction { contract_by: _ } => write!(
+        )?),
+        TranslationFrom::DiagonalContraction { contract_by: _ } => Ok(write!(
             out,
             "each element of the diagonal goes to a place of its own"
-        ),
-        TranslationFrom::SparseContraction { contract_by: _ } => write!(
+        )?),
+        TranslationFrom::SparseContraction { contract_by: _ } => Ok(write!(
             out,
             "each range of elements is joined into one"
-        ),
-        TranslationFrom::ElementWise => write!(out, "each element goes to a place of its own"),
+        )?),
+        TranslationFrom::ElementWise => Ok(write!(out, "each element goes to a place of its own")?),
         TranslationFrom::Broadcast {
             broadcast_by: _,
             broadcast_len,
-        } => write!(out, "each element goes to {broadcast_len} places"),
+        } => Ok(write!(out, "each element goes to {broadcast_len} places")?),
     }
 }
 
 fn put_reason(out: &mut String, fault: TranslationFault) -> fmt::Result {
     match fault {
-        TranslationFault::Unknown => write!(out, "there is no such layout"),
-        TranslationFault::Start => write!(
+        TranslationFault::Unknown => Ok(write!(out, "there is no such layout")?),
+        TranslationFault::Start => Ok(write!(
             out,
             "the via has more axes than the target, or the start has an entry beyond them"
-        ),
-        TranslationFault::NoTranslation => write!(
+        )?),
+        TranslationFault::NoTranslation => Ok(write!(
             out,
             "no translation leads between these ranks and kinds"
-        ),
-        TranslationFault::Elements => write!(
+        )?),
+        TranslationFault::Elements => Ok(write!(
             out,
             "the elements made are not as many as the places of the via"
-        ),
-        TranslationFault::Uncovered => write!(
+        )?),
+        TranslationFault::Uncovered => Ok(write!(
             out,
             "a source place lies over no via place, or a via place under none"
-        ),
-        TranslationFault::NoDestination { place } => write!(
+        )?),
+        TranslationFault::NoDestination { place } => Ok(write!(
             out,
             "place {place} of the via has no place in the target"
-        ),
-        TranslationFault::Short => write!(out, "the index table is full"),
+        )?),
+        TranslationFault::Short => Ok(write!(out, "the index table is full")?),
     }
 }
 
@@ -105,10 +105,10 @@ fn put_lists(out: &mut String, t: Translation, ranges: &[i32], list: &[i32]) -> 
     }
     let elements = t.elements;
     match t.to {
-        TranslationTo::Contiguous { start, end: _ } => write!(
+        TranslationTo::Contiguous { start, end: _ } => Ok(write!(
             out,
             "; stored one after another from place {start} on, {elements} in all"
-        ),
+        )?),
         TranslationTo::Listed => {
             write!(out, "; stored at places ")?;
             put_entries(out, list)

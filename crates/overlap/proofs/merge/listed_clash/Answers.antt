@@ -11,5 +11,5 @@ returns-then-block-eq0 g c =
     let d = destination c.args.block c.args.indices.now in
     elim c.then-block-eq0.branch [
       | then-block-eq0-via-then-block-eq0 w ↦ shared_none f c.args.new.count d c.args.block.via (λ k h j l e. omega (arith, w.if-block-eq0.true))
-      | then-block-eq0-via-else-block-eq0+then-ends-apart w ↦ ends_apart f c.args.new.count d c.args.block.via c.requires.fitting.rises c.requires.orderly.rises (w.ends_apart.ensures.0 w.if-ends_apart.true)
+      | then-block-eq0-via-else-block-eq0+then-ends_apart w ↦ ends_apart f c.args.new.count d c.args.block.via c.requires.fitting.rises c.requires.orderly.rises (w.ends_apart.ensures.0 w.if-ends_apart.true)
     ]

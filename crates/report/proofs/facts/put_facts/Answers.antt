@@ -11,7 +11,7 @@ loop-layout-preserved g c =
 
 pub loop-question-preserved : goal.loop-question-preserved
 loop-question-preserved g c =
-    more_joined (question_fact (g.C.Catalogue.layouts c.args.c.now)) c.args.questions.now c.loop-question.question_index _ _ _ _ c.loop-question-test.true c.loop-question.invariant c.in_ok-put_question.ensures
+    more_joined (question_fact (g.C.Catalogue.layouts c.args.c.now)) c.args.questions.now c.loop-question.question-index _ _ _ _ c.loop-question-test.true c.loop-question.invariant c.in_ok-put_question.ensures
 
 pub returns : goal.returns
 returns g c =
@@ -20,5 +20,5 @@ returns g c =
     let out = string_bytes c.args.out.now in
     let done : c.loop-layout.layout ≡ length ls = omega (arith, c.count-layout-end.ensures.many) in
     let first = c.loop-layout.invariant ∙ ap (λ n. out ++ flat_map (λ t. t) (map (layout_fact_of ls) (range_with_len 0 n))) done in
-    let second = c.loop-question.invariant ∙ ap (λ l. string_bytes c.loop-layout.out ++ flat_map (question_fact ls) l) (take_all c.loop-question.question_index qs c.loop-question-test.false) in
+    let second = c.loop-question.invariant ∙ ap (λ l. string_bytes c.loop-layout.out ++ flat_map (question_fact ls) l) (take_all c.loop-question.question-index qs c.loop-question-test.false) in
     second ∙ ap (λ l. l ++ flat_map (question_fact ls) qs) first ∙ append_assoc out _ _
