@@ -14,7 +14,6 @@ use Rattle.translation.specs.declared.kinds.TranslationFault.{TranslationFault}
 use Rattle.translation.specs.declared.kinds.TranslationFault.TheVariants.{NoTranslation}
 use Rattle.translation.specs.Entries.{entries_of}
 use Rattle.translation.specs.Outcome.{translated}
-use Rattle.reader.specs.declared.record.BlockRecord.{BlockRecord}
 use Rattle.reader.specs.Rules.{join_of, followed}
 use Rattle.reader.specs.Recorded.{record_of}
 

@@ -1,9 +1,8 @@
 -- The lines of a design, one more at a time.
-use Rattle.std.proofs.Common.{◌≡◌, ℕ, suc, ◌+◌, List, [], ◌∷◌, ◌++◌, length, sym, refl, ap, ◌∙◌, subst, append_assoc, append-nil, arith}
+use Rattle.std.proofs.Common.{◌≡◌, ℕ, ◌+◌, List, [], ◌∷◌, ◌++◌, length, sym, refl, ap, ◌∙◌, subst, append_assoc, append-nil, arith}
 use Rattle.std.specs.Str.Lines.{IsFirstLine}
 use Rattle.std.proofs.lemmas.List.{length_push}
-use Rattle.design.specs.declared.read.Design.{Design}
-use Rattle.design.specs.Designs.{Contents, contents, nothing, uncommented, LineAdded, Lines, LinesAdded, DesignSaid}
+use Rattle.design.specs.Designs.{Contents, nothing, uncommented, LineAdded, Lines, LinesAdded}
 
 added_more : (k j : ℕ) (ls : List (List ℕ)) (l : List ℕ) (b m a : Contents) → j ≡ k + length ls → LinesAdded k ls b m → LineAdded j (uncommented l) m a → LinesAdded k (ls ++ (l ∷ [])) b a
 added_more k j [] l b m a e same h =

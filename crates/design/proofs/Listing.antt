@@ -3,7 +3,7 @@ use Rattle.std.proofs.Common.{◌≡◌, ℕ, ◌+◌, ◌*◌, ◌<◌, ◌≤�
 use Rattle.std.specs.List.{flat_map, AllByRecursion as All}
 use Rattle.std.proofs.ByRecursion.{All-push}
 use Rattle.std.proofs.lemmas.List.{flat_map_more, length_push}
-use Rattle.design.specs.Lines.{natural, ended, Listed, Pooled}
+use Rattle.design.specs.Lines.{natural, ended, Pooled}
 use Rattle.design.specs.Numbers.{Says}
 use Rattle.design.proofs.Said.{says_more, says_length}
 

@@ -1,7 +1,7 @@
 -- The words of a text as an iterator over them goes along.
-use Rattle.std.proofs.Common.{◌≡◌, ℕ, ◌<◌, ◌≤◌, Bool, true, false, cond, not, ◌&&◌, List, [], ◌∷◌, ◌++◌, map, length, Some, None, IsUtf8, Option, sym, refl, ap, ◌∙◌, subst, append_assoc, append-nil, arith, length-append, Bor, MatchOption}
+use Rattle.std.proofs.Common.{◌≡◌, ℕ, ◌<◌, Bool, true, false, not, ◌&&◌, List, [], ◌∷◌, ◌++◌, map, length, Some, None, IsUtf8, Option, sym, refl, ap, ◌∙◌, subst, append_assoc, append-nil, arith, length-append, Bor, MatchOption}
 use lib.Utf8.{encode, encodes, scalar, scalars}
-use Rattle.std.specs.Char.{len_utf8, is_whitespace, is_not_whitespace}
+use Rattle.std.specs.Char.{is_whitespace, is_not_whitespace}
 use Rattle.std.specs.Str.{NonePass, NoCharPasses, EmptyOrStartsWithPassing, chars}
 use Rattle.std.proofs.lemmas.Str.{cons_from_encodes, chars-encodes, encodes-chars, scalars-chars, encodes_same, length-encode, len_utf8_bounds}
 use Rattle.design.specs.Texts.{begun, runs, words, left}

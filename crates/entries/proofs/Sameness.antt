@@ -1,15 +1,14 @@
 -- The tests of equal layouts decide.
-use Rattle.std.proofs.Common.{◌≡◌, ℕ, Bool, true, false, ◌&&◌, List, [], ◌∷◌, get_or, None, Decides, sym, refl, ap, ◌∙◌, inl, inr}
-use Rattle.std.specs.Str.{bytes_eq}
+use Rattle.std.proofs.Common.{◌≡◌, ℕ, Bool, true, false, List, [], ◌∷◌, get_or, None, Decides, sym, refl, ap, ◌∙◌}
 use Rattle.std.proofs.lemmas.Slice.Eq.{bytes_eq-Decides}
-use Rattle.std.proofs.lemmas.Bool.{and_parts, and_from, cases_Bool, false≢true}
+use Rattle.std.proofs.lemmas.Bool.{and_parts, and_from, false≢true}
 use Rattle.layout.specs.declared.kind.LayoutKind.{LayoutKind}
 use Rattle.layout.specs.declared.kind.LayoutKind.TheVariants.{Dense, Diagonal, Sparse}
 use Rattle.layout.specs.Places.{Place, same}
 use Rattle.layout.specs.Layouts.{Layout, blank, rank}
 use Rattle.names.specs.Reading.{packed, permutation}
 use Rattle.layout.proofs.Finding.{same_true, same_self}
-use Rattle.names.specs.Tables.{identity_from, NoTable}
+use Rattle.names.specs.Tables.{NoTable}
 use Rattle.entries.specs.Needed.{same_kind, same_places, same_layout, own_number, table_by, named_table}
 
 kind_same : (k l : LayoutKind) → same_kind k l ≡ true → k ≡ l

@@ -1,8 +1,8 @@
 -- The binary tables that a block adds: those that its names need, in node order, each once, and none that there is already.
-use Rattle.std.specs.Prelude.{ℕ, ◌+◌, Bool, true, false, cond, ◌&&◌, ◌||◌, List, [], ◌∷◌, ◌++◌, map, length, ℤ, Some, None, Option, ◌==◌, slice_index_or}
+use Rattle.std.specs.Prelude.{ℕ, ◌+◌, Bool, false, cond, ◌&&◌, ◌||◌, List, [], ◌∷◌, ◌++◌, map, length, ℤ, Some, None, Option, ◌==◌, slice_index_or}
 use Rattle.std.specs.List.{flat_map}
 use Rattle.std.specs.Str.{bytes_eq}
-use Rattle.layout.specs.Layouts.{Layout, blank, count}
+use Rattle.layout.specs.Layouts.{Layout, blank}
 use Rattle.names.specs.Reading.{slots_of}
 use Rattle.names.specs.Tables.{binary_table}
 use Rattle.records.specs.declared.record.TableKey.{TableKey}

@@ -1,5 +1,5 @@
 -- Which binary tables the names of a block need.
-use Rattle.std.specs.Prelude.{ℕ, Bool, true, false, cond, ◌&&◌, ◌||◌, List, [], ◌∷◌, ◌++◌, get_or, Some, None, Option, slice_index_or}
+use Rattle.std.specs.Prelude.{ℕ, Bool, true, false, ◌&&◌, List, [], ◌∷◌, get_or, Some, None, Option, slice_index_or}
 use Rattle.std.specs.Str.{bytes_eq}
 use Rattle.layout.specs.declared.kind.LayoutKind.{LayoutKind}
 use Rattle.layout.specs.declared.kind.LayoutKind.TheVariants.{Dense, Diagonal, Sparse}
@@ -9,7 +9,7 @@ use Rattle.expression.specs.declared.node.Node.{Node}
 use Rattle.expression.specs.declared.node.Node.TheVariants.{Number, Name, Binary, Unary, Call}
 use Rattle.expression.specs.Letterings.{letters_of}
 use Rattle.names.specs.declared.variable.VariableRecord.{VariableRecord}
-use Rattle.names.specs.Reading.{slots_of, packed, permutation}
+use Rattle.names.specs.Reading.{packed, permutation}
 use Rattle.names.specs.Tables.{identity_from}
 use Rattle.names.specs.Variables.{described}
 use Rattle.records.specs.declared.record.TableKey.{TableKey}

@@ -1,5 +1,5 @@
 -- An expression inside another acts as one value.
-use Rattle.std.proofs.Common.{◌≡◌, ℕ, suc, ◌+◌, ◌-◌, ◌≤◌, true, eqb, List, [], ◌∷◌, ◌++◌, length, get_or, take, drop, Some, None, Ok, Err, Option, Result, sym, refl, ap, ◌∙◌, append_assoc, append-nil, arith}
+use Rattle.std.proofs.Common.{◌≡◌, ℕ, suc, ◌+◌, ◌-◌, ◌≤◌, true, List, [], ◌∷◌, ◌++◌, length, get_or, take, drop, Some, None, Ok, Err, Option, Result, sym, refl, ap, ◌∙◌, append_assoc, append-nil, arith}
 use lib.Ieee.{Float, nan}
 use Rattle.std.proofs.lemmas.List.{length-append, length-take, drop_at, take_at, take-append-drop, drop-drop}
 use Rattle.std.proofs.lemmas.Bool.{and_parts, eqb-true}

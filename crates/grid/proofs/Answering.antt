@@ -1,19 +1,16 @@
 -- What the functions of `works` answer is what the layout means.
-use Rattle.std.proofs.Common.{◌≡◌, ℕ, zero, suc, ◌<◌, ◌≤◌, Bool, true, false, ◌&&◌, leb, List, [], ◌∷◌, length, get_or, take, ℤ, Some, None, Option, sym, refl, ap, ◌∙◌, subst, arith}
-use Rattle.std.proofs.lemmas.Bool.{and_parts, leb-true}
+use Rattle.std.proofs.Common.{◌≡◌, ℕ, zero, suc, ◌<◌, ◌≤◌, true, List, [], ◌∷◌, length, get_or, ℤ, Some, None, Option, sym, refl, ap, ◌∙◌, subst, arith}
 use Rattle.std.proofs.lemmas.List.{length-take}
-use Rattle.std.proofs.ByRecursion.{All-get_or, all-has}
+use Rattle.std.proofs.ByRecursion.{All-get_or}
 use Rattle.std.proofs.lemmas.List.FromFn.{length-map-range_with_len, get_or-map-range_with_len}
 use Rattle.std.specs.Option.{option_map}
-use Rattle.layout.specs.declared.kind.LayoutKind.{LayoutKind}
-use Rattle.layout.specs.declared.kind.LayoutKind.TheVariants.{Dense, Diagonal, Sparse}
+use Rattle.layout.specs.declared.kind.LayoutKind.TheVariants.{Dense, Diagonal}
 use Rattle.layout.specs.Places.{Place, place, origin, entries, Inside, axis}
-use Rattle.layout.specs.Layouts.{Layout, Valid, Level, OfKind, count, rank, at, inside, named, strict}
-use Rattle.layout.specs.Radix.{size, ravel, unravel, every, diagonal, along}
+use Rattle.layout.specs.Layouts.{Level, OfKind, count, rank, at, inside, strict}
+use Rattle.layout.specs.Radix.{size, ravel, unravel, along}
 use Rattle.layout.proofs.Radix.{every_length, every_at, ravel_below, unravel_ravel}
 use Rattle.layout.proofs.Finding.{inside_says, strict_absent, strict_outside, strict_inside}
 use Rattle.grid.specs.declared.shapes.GridShape.{GridShape}
-use Rattle.layout.specs.Rules.{equal_axes}
 use Rattle.grid.specs.Grids.{grid_shape, grid_places, grid_layout, sound}
 use Rattle.grid.proofs.Validity.{axes_say, grid_valid, sound_says, along_is}
 

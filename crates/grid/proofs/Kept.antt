@@ -1,7 +1,7 @@
 -- The layouts of the shapes that are kept.
-use Rattle.std.proofs.Common.{◌≡◌, ℕ, ◌<◌, ◌≤◌, true, List, map, length, get_or, take, sym, ap, ◌∙◌, arith}
+use Rattle.std.proofs.Common.{◌≡◌, ℕ, ◌<◌, ◌≤◌, List, length, get_or, take, ap, ◌∙◌, arith}
 use Rattle.std.proofs.lemmas.List.{length-map, length-take-le, get_or-map, get_or-take}
-use Rattle.layout.specs.Layouts.{Layout, Valid, blank}
+use Rattle.layout.specs.Layouts.{Valid, blank}
 use Rattle.grid.specs.declared.shapes.GridShape.{GridShape}
 use Rattle.grid.specs.Grids.{grid_layout, grid_layouts, Sounds, no_shape}
 use Rattle.grid.proofs.Validity.{grid_valid}

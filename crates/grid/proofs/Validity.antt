@@ -1,16 +1,16 @@
 -- A sound shape means a valid layout.
-use Rattle.std.proofs.Common.{◌≡◌, ℕ, zero, suc, ◌+◌, ◌*◌, ◌<◌, ◌≤◌, min, Bool, true, false, cond, ◌&&◌, ◌||◌, eqb, ltb, leb, ◌⊎◌, List, ◌∷◌, length, get_or, take, sym, refl, ap, ◌∙◌, inl, inr, mul-le-mul, arith}
-use Rattle.std.proofs.lemmas.Bool.{and_parts, leb-true, cases_Bool, cases_lt, or_cases, eqb-true, false≢true, cond_both, cond-true, ltb-true, ltb-false, lt-ltb}
+use Rattle.std.proofs.Common.{◌≡◌, ℕ, zero, suc, ◌<◌, ◌≤◌, true, cond, ◌&&◌, ◌||◌, eqb, ltb, leb, List, length, get_or, sym, refl, ◌∙◌, inl, mul-le-mul, arith}
+use Rattle.std.proofs.lemmas.Bool.{and_parts, leb-true, false≢true, cond_both, cond-true, ltb-true, ltb-false, lt-ltb}
 use Rattle.std.proofs.lemmas.Bool.Decides.{nat_tests}
 use Rattle.std.proofs.lemmas.List.{length-take, get_or_past}
 use Rattle.std.proofs.ByRecursion.{All-from_get_or}
 use Rattle.std.proofs.lemmas.List.FromFn.{length-map-range_with_len, get_or-map-range_with_len}
-use Rattle.std.specs.List.{range_with_len, ContainsAt as Has, AllByRecursion as All}
+use Rattle.std.specs.List.{AllByRecursion as All}
 use Rattle.layout.specs.declared.kind.LayoutKind.{LayoutKind}
 use Rattle.layout.specs.declared.kind.LayoutKind.TheVariants.{Dense, Diagonal, Sparse}
-use Rattle.layout.specs.Places.{Place, place, origin, Before, Inside, axis}
-use Rattle.layout.specs.Layouts.{Layout, Valid, Level, OfKind}
-use Rattle.layout.specs.Radix.{size, every, unravel, diagonal, along}
+use Rattle.layout.specs.Places.{Place, place, origin, Inside, axis}
+use Rattle.layout.specs.Layouts.{Valid, Level}
+use Rattle.layout.specs.Radix.{size, every, diagonal, along}
 use Rattle.layout.proofs.Radix.{unravel_inside, unravel_before, every_length, every_at, every_has}
 use Rattle.grid.specs.declared.shapes.GridShape.{GridShape}
 use Rattle.layout.specs.Rules.{first_broken, none, in_range, axes_in_range, equal_axes}

@@ -1,13 +1,13 @@
 -- The long row read by the changes of its key.
-use Rattle.std.proofs.Common.{◌≡◌, ℕ, zero, suc, ◌+◌, ◌-◌, ◌*◌, ◌/◌, ◌%◌, ◌<◌, ◌≤◌, Bool, true, false, cond, eqb, ◌⊎◌, List, [], ◌∷◌, ◌++◌, filter, sym, refl, ap, ◌∙◌, subst, inl, inr, add-zero, mul-le-mul_right, add-mul, zero-add, div-mul-le_self, arith}
+use Rattle.std.proofs.Common.{◌≡◌, ℕ, zero, suc, ◌+◌, ◌-◌, ◌*◌, ◌/◌, ◌<◌, ◌≤◌, Bool, true, false, cond, eqb, ◌⊎◌, [], ◌∷◌, ◌++◌, filter, sym, refl, ap, ◌∙◌, inl, inr, add-zero, mul-le-mul_right, add-mul, zero-add, div-mul-le_self, arith}
 use native.Mathlib.Nat.{zero-div}
 use lib.Arith.{digits_div}
 use Rattle.std.proofs.lemmas.List.{append-nil}
 use Rattle.std.proofs.lemmas.List.Elements.{filter-append}
 use Rattle.std.proofs.lemmas.Nat.{div-add-mod', mod_below, div_below, le-div}
-use Rattle.std.proofs.lemmas.Bool.{cases_Bool, cases_order, cases_lt, cases_eq, eqb-true, eqb-false, eq-eqb, ne_eqb}
+use Rattle.std.proofs.lemmas.Bool.{cases_Bool, cases_order, cases_lt, eqb-true, eqb-false, eq-eqb, ne_eqb}
 use Rattle.std.specs.List.{range_with_len}
-use Rattle.grouping.specs.Groups.{Grouped, changes, with_key, Runs, Range, OneRun, OneEach, RangesCut}
+use Rattle.grouping.specs.Groups.{Grouped, changes, Runs, OneRun, OneEach, RangesCut}
 
 cond_most : (t : Bool) → cond t 0 1 ≤ 1
 cond_most true = omega arith

@@ -1,10 +1,10 @@
 -- Places by their keys.
-use Rattle.std.proofs.Common.{◌≡◌, ℕ, zero, suc, ◌+◌, ◌*◌, ◌/◌, ◌%◌, ◌<◌, ◌≤◌, ◌⊎◌, List, [], ◌∷◌, length, get_or, take, sym, refl, ap, ◌∙◌, subst, inl, inr, div-one, arith}
+use Rattle.std.proofs.Common.{◌≡◌, ℕ, zero, suc, ◌+◌, ◌*◌, ◌/◌, ◌%◌, ◌<◌, ◌≤◌, List, length, sym, refl, ap, ◌∙◌, inl, inr, div-one, arith}
 use native.Mathlib.Nat.{div-div-eq-div-mul}
 use Rattle.std.proofs.lemmas.List.{get_or_past}
 use Rattle.std.proofs.ByRecursion.{All-get_or}
 use Rattle.std.proofs.lemmas.Bool.{cases_order, cases_lt}
-use Rattle.layout.specs.Places.{Place, place, origin, entries, Before, Inside, Agree, axis}
+use Rattle.layout.specs.Places.{Place, place, origin, Before, Inside, Agree, axis}
 use Rattle.layout.specs.Layouts.{Layout, Valid, count, rank, at}
 use Rattle.layout.specs.Radix.{unravel}
 use Rattle.layout.proofs.Finding.{before_other}

@@ -1,17 +1,17 @@
 -- The reader's rules for layouts.
-use Rattle.std.proofs.Common.{◌≡◌, ℕ, zero, suc, ◌+◌, ◌*◌, ◌/◌, ◌<◌, ◌≤◌, Bool, true, false, cond, ◌&&◌, eqb, ◌⊎◌, List, [], ◌∷◌, length, get_or, filter, sym, refl, ap, ◌∙◌, subst, inl, inr, div-one, arith}
+use Rattle.std.proofs.Common.{◌≡◌, ℕ, zero, suc, ◌+◌, ◌/◌, ◌<◌, ◌≤◌, Bool, eqb, filter, sym, refl, ap, ◌∙◌, subst, div-one, arith}
 use Rattle.std.proofs.lemmas.Bool.Decides.{nat_tests}
-use Rattle.std.proofs.lemmas.Bool.{eq-eqb, ne_eqb, cases_Bool, eqb-true, eqb-false}
+use Rattle.std.proofs.lemmas.Bool.{ne_eqb}
 use Rattle.std.specs.List.{range_with_len, ContainsAt as Has}
 use Rattle.layout.specs.declared.kind.LayoutKind.TheVariants.{Dense}
-use Rattle.layout.specs.Places.{Place, origin, Before, Inside, Agree, axis, same}
-use Rattle.layout.specs.Layouts.{Layout, Valid, OfKind, count, rank, at}
+use Rattle.layout.specs.Places.{Place, origin, Inside}
+use Rattle.layout.specs.Layouts.{Layout, Valid, OfKind, count, at}
 use Rattle.layout.specs.Radix.{size, ravel, unravel}
 use Rattle.layout.proofs.Radix.{unravel_inside, unravel_before, ravel_below, unravel_ravel}
 use Rattle.grouping.specs.Groups.{Grouped, Runs, changes, with_key}
-use Rattle.grouping.specs.Keys.{key, tail_size, Covered, agrees, over_place, InRuns, by_dense, by_one, by_none, by_single, Contraction, Spreading, Ranging}
+use Rattle.grouping.specs.Keys.{key, agrees, over_place, InRuns, by_dense, by_one, by_none, by_single, Contraction, Spreading, Ranging}
 use Rattle.grouping.proofs.Grouping.{at_changes, one_run, one_each, ranges_cut}
-use Rattle.grouping.proofs.Keyed.{Small, grouped, made, axis_small, keys_level, key_before, key_level, key_agree, agree_key, small_at, small_inside, inside_at, keys_rise, dense_runs}
+use Rattle.grouping.proofs.Keyed.{Small, grouped, made, axis_small, keys_level, key_before, small_at, small_inside, inside_at, keys_rise, dense_runs}
 
 -- two rows that both rise, with the same keys, are the same row
 strictly : (a : ℕ → ℕ) (n : ℕ) → ((i j : ℕ) → i < j → j < n → a i < a j) → (i : ℕ) → i < n → changes a i ≡ i

@@ -1,6 +1,6 @@
 -- Two rows of keys: a long one of n that never falls, and a short one of k that rises, with the same keys in both.
 -- The long row is the source's places and the short one the via's in a contraction, and the other way round in a broadcast; a key is the entries on which they are to agree.
-use Rattle.std.specs.Prelude.{◌≡◌, ℕ, zero, suc, ◌+◌, ◌*◌, ◌/◌, ◌<◌, ◌≤◌, Bool, true, false, cond, List, [], ◌∷◌, filter, ◌==◌, nat_eq}
+use Rattle.std.specs.Prelude.{◌≡◌, ℕ, zero, suc, ◌+◌, ◌*◌, ◌/◌, ◌<◌, ◌≤◌, cond, List, [], ◌∷◌, filter, ◌==◌, nat_eq}
 use Rattle.std.specs.List.{range_with_len}
 
 pub record Grouped (a : ℕ → ℕ) (n : ℕ) (b : ℕ → ℕ) (k : ℕ) : Type 0 where

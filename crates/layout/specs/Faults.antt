@@ -1,5 +1,4 @@
 -- What a refused caller reads: each fault with its number, its layer and its place.
-use Rattle.std.specs.Prelude.{ℕ}
 use Rattle.layout.specs.declared.fault.Layer.TheVariants.{Stage}
 use Rattle.layout.specs.declared.fault.Report.{Report}
 use Rattle.layout.specs.declared.fault.LayoutFault.{LayoutFault}

@@ -1,7 +1,7 @@
 -- Places and indices.
 --
 -- A place is four entries. One that belongs to a shape of lower rank has 0 beyond the rank, as if the shape had further axes of length 1.
-use Rattle.std.specs.Prelude.{◌≡◌, ℕ, ◌<◌, Bool, ◌&&◌, T, ◌⊎◌, List, [], ◌∷◌, take, ℤ, pos, ◌==◌, slice_index, slice_index_or}
+use Rattle.std.specs.Prelude.{◌≡◌, ℕ, ◌<◌, Bool, ◌&&◌, ◌⊎◌, List, [], ◌∷◌, take, ◌==◌, slice_index, slice_index_or}
 
 pub record Place : Type 0 where
   pub a : ℕ

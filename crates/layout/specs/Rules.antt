@@ -1,5 +1,5 @@
 -- Rules in the order in which they are checked: the first one that is broken.
-use Rattle.std.specs.Prelude.{◌≡◌, ℕ, Bool, true, false, cond, ◌&&◌, ◌||◌, List, [], ◌∷◌, length, Some, None, Option, ◌==◌, nat_le}
+use Rattle.std.specs.Prelude.{ℕ, Bool, true, false, cond, ◌&&◌, ◌||◌, List, [], ◌∷◌, length, Some, None, Option, ◌==◌, nat_le}
 use Rattle.layout.specs.declared.fault.Rule.{Rule}
 use Rattle.layout.specs.Places.{axis}
 

@@ -5,8 +5,8 @@ use Rattle.std.proofs.ByRecursion.{All-get_or}
 use Rattle.std.proofs.lemmas.Bool.{and_parts, eqb-true, eq-eqb, ne_eqb, lt-ltb, le-ltb, ltb-true, cases_Bool, cases_lt, cases_eq, not-true, both_ways}
 use Rattle.layout.specs.declared.kind.LayoutKind.{LayoutKind}
 use Rattle.layout.specs.declared.kind.LayoutKind.TheVariants.{Dense, Diagonal, Sparse}
-use Rattle.layout.specs.Places.{Place, place, origin, Inside, axis}
-use Rattle.layout.specs.Layouts.{Layout, Valid, count, rank, at, natural, given, named, widened, widen, wide_index, strict, wide}
+use Rattle.layout.specs.Places.{Place, origin, Inside, axis}
+use Rattle.layout.specs.Layouts.{Layout, Valid, count, rank, at, natural, given, named, widened, widen, wide_index}
 use Rattle.layout.specs.Answers.{index_of}
 use Rattle.layout.proofs.Finding.{strict_found}
 use Rattle.expression.specs.Letterings.{position, among, distinct}

@@ -1,5 +1,5 @@
 -- A name reads a place that its layout has.
-use Rattle.std.proofs.Common.{◌≡◌, ℕ, suc, ◌+◌, ◌-◌, ◌<◌, ◌≤◌, Bool, true, false, cond, eqb, ltb, List, [], ◌∷◌, length, get_or, take, drop, ℤ, Some, None, Option, sym, refl, ap, ◌∙◌, subst, inl, inr, arith}
+use Rattle.std.proofs.Common.{◌≡◌, ℕ, suc, ◌+◌, ◌-◌, ◌<◌, ◌≤◌, Bool, true, false, cond, eqb, ltb, List, [], ◌∷◌, length, get_or, drop, ℤ, Some, None, Option, sym, refl, ap, ◌∙◌, subst, inl, inr, arith}
 use lib.Ieee.{Float}
 use Rattle.std.specs.Float as Floats
 use Rattle.std.specs.Option.{option_map}
@@ -8,7 +8,7 @@ use Rattle.std.proofs.lemmas.Bool.{cases_lt, le-ltb, lt-ltb}
 use Rattle.layout.specs.declared.kind.LayoutKind.{LayoutKind}
 use Rattle.layout.specs.declared.kind.LayoutKind.TheVariants.{Dense, Diagonal, Sparse}
 use Rattle.layout.specs.Places.{Place, same}
-use Rattle.layout.specs.Layouts.{Layout, Valid, AllValid, blank, count, number, number_of, named, rank, strict, wide_index}
+use Rattle.layout.specs.Layouts.{Layout, AllValid, blank, count, number, number_of, named, rank, strict, wide_index}
 use Rattle.names.specs.declared.variable.VariableRecord.{VariableRecord}
 use Rattle.expression.specs.declared.node.Letters.{Letters}
 use Rattle.expression.specs.Letterings.{letters_of}

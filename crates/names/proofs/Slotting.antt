@@ -1,10 +1,10 @@
 -- Slots put into a permutation.
-use Rattle.std.proofs.Common.{◌≡◌, ℕ, suc, ◌+◌, ◌-◌, ◌<◌, ◌≤◌, min, Bool, true, false, cond, List, [], ◌∷◌, ◌++◌, map, length, get_or, take, drop, sym, refl, ap, ◌∙◌, inl, inr, append_assoc, append-nil, arith, length-take}
+use Rattle.std.proofs.Common.{◌≡◌, ℕ, ◌+◌, ◌-◌, ◌<◌, ◌≤◌, min, Bool, true, false, cond, List, [], ◌∷◌, ◌++◌, map, length, get_or, take, drop, sym, refl, ap, ◌∙◌, inl, inr, append_assoc, append-nil, arith, length-take}
 use Rattle.std.proofs.lemmas.List.{at_drop_more, at_drop_all, take_all, map_more}
 use Rattle.std.proofs.lemmas.Bool.{cases_lt}
 use Rattle.expression.specs.Letterings.{among}
 use Rattle.names.specs.declared.permutation.Permutation.{Permutation}
-use Rattle.names.specs.Reading.{slots_of, packed, foreign, slot, permutation}
+use Rattle.names.specs.Reading.{slots_of, packed, foreign, slot}
 
 pub take_min : (n : ℕ) (xs : List ℕ) → length xs ≡ 8 → take (min n 8 - 0) xs ≡ take n xs
 take_min n xs h =

@@ -2,7 +2,7 @@
 use Rattle.std.proofs.Common.{◌≡◌, ℕ, ◌+◌, ◌<◌, ◌≤◌, Bool, true, false, cond, ◌&&◌, ◌||◌, ltb, leb, List, length, get_or, drop, Ok, Err, Option, sym, refl, ap, ◌∙◌, subst, inl, inr, arith}
 use Rattle.std.proofs.lemmas.List.{at_drop_more, at_drop_all, get_or_past}
 use Rattle.std.proofs.lemmas.Bool.{cases_lt}
-use Rattle.layout.specs.Layouts.{Layout, Valid, AllValid, blank, rank}
+use Rattle.layout.specs.Layouts.{Layout, AllValid, blank, rank}
 use Rattle.expression.specs.declared.node.Node.{Node}
 use Rattle.expression.specs.declared.fault.ExpressionFault.{ExpressionFault}
 use Rattle.expression.specs.declared.fault.ExpressionFault.TheVariants as fault

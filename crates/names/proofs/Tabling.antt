@@ -1,5 +1,5 @@
 -- The entries of a binary table, and whether there is one.
-use Rattle.std.proofs.Common.{◌≡◌, ℕ, ◌+◌, ◌<◌, ◌≤◌, true, false, cond, ◌&&◌, eqb, ltb, leb, List, ◌++◌, map, length, get_or, take, drop, set, ℤ, pos, IfSome, Some, None, Ok, Err, Option, Result, sym, ap, ◌∙◌, subst, inl, inr, arith}
+use Rattle.std.proofs.Common.{◌≡◌, ℕ, ◌+◌, ◌<◌, ◌≤◌, true, false, cond, ◌&&◌, eqb, ltb, leb, List, ◌++◌, length, get_or, take, drop, set, ℤ, pos, IfSome, Some, None, Ok, Err, Option, Result, sym, ap, ◌∙◌, subst, inl, inr, arith}
 use Rattle.std.proofs.lemmas.List.{at_drop_more, at_drop_all, get_or_past, get_or-map, length-map}
 use Rattle.std.proofs.lemmas.List.Edits.{paste_more, paste_all}
 use Rattle.std.proofs.lemmas.Bool.{eq-eqb, ne_eqb, cases_lt, cases_Bool}
@@ -7,7 +7,7 @@ use lib.Seq.{paste}
 use Rattle.layout.specs.declared.fault.LayoutFault.TheVariants.{Unknown}
 use Rattle.layout.specs.declared.shape.Shape.{Shape}
 use Rattle.layout.specs.Places.{Place, origin}
-use Rattle.layout.specs.Layouts.{Layout, Valid, AllValid, blank, count, at, wide, wide_index}
+use Rattle.layout.specs.Layouts.{Layout, AllValid, blank, count, at, wide, wide_index}
 use Rattle.layout.specs.Answers.{asked, shape_of, shape_asked, index_of}
 use Rattle.names.specs.Reading.{table_element}
 use Rattle.names.specs.Tables.{identity_from, entry_of, binary_table, table_asked, PutFrom}

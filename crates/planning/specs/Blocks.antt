@@ -20,14 +20,12 @@ use Rattle.expression.specs.declared.node.Node.{Node}
 use Rattle.expression.specs.declared.fault.ExpressionFault.{ExpressionFault}
 use Rattle.expression.specs.Letterings.{letters_of, distinct}
 use Rattle.expression.specs.Nodes.{sound_letters}
-use Rattle.names.specs.declared.variable.Class.{Class}
 use Rattle.names.specs.declared.variable.VariableRecord.{VariableRecord}
 use Rattle.names.specs.Checks.{and_then, checked}
 use Rattle.names.specs.Outcomes.{gathered, value_by}
 use Rattle.names.specs.Variables.{environment, is_constant, ready_but}
 use Rattle.records.specs.declared.counts.Counts.{Counts}
 use Rattle.records.specs.declared.counts.Room.{Room}
-use Rattle.records.specs.declared.record.BinaryRecord.{BinaryRecord}
 use Rattle.records.specs.declared.record.BlockEntry.{BlockEntry}
 use Rattle.records.specs.declared.record.TableKey.{TableKey}
 use Rattle.records.specs.declared.record.TensorRecord.{TensorRecord}

@@ -1,5 +1,5 @@
 -- What an opening answers and leaves, and a closing.
-use Rattle.std.specs.Prelude.{ℕ, zero, suc, ◌+◌, Bool, cond, ◌&&◌, List, [], ◌∷◌, ◌++◌, replicate, Some, None, Ok, Err, Option, Result, nat_le, slice_index_or, Float}
+use Rattle.std.specs.Prelude.{ℕ, zero, suc, ◌+◌, Bool, cond, ◌&&◌, List, [], ◌∷◌, ◌++◌, replicate, Some, None, Ok, Err, Option, Result, nat_le, slice_index_or}
 use Rattle.std.specs.Float.{float_zero as nought}
 use Rattle.layout.specs.Layouts.{Layout, blank, count}
 use Rattle.translation.specs.Outcome.{known}

@@ -6,15 +6,14 @@ use Rattle.std.proofs.lemmas.List.{get_or_append_left, get_or-append-add, length
 use Rattle.std.proofs.lemmas.Bool.{leb-true, le-leb}
 use Rattle.std.specs.List.{range_with_len}
 use lib.Seq.{paste}
-use Rattle.layout.specs.Layouts.{Layout, Valid, AllValid, blank, count, rank, at}
-use Rattle.grouping.specs.Keys.{over_place}
+use Rattle.layout.specs.Layouts.{Layout, Valid, AllValid, blank, count, rank}
 use Rattle.translation.specs.declared.kinds.Translation.{Translation}
 use Rattle.translation.specs.declared.kinds.TranslationFrom.{TranslationFrom}
 use Rattle.translation.specs.declared.kinds.TranslationFrom.TheVariants.{DenseContraction, DiagonalContraction, SparseContraction, ElementWise, Broadcast}
 use Rattle.translation.specs.declared.kinds.TranslationTo.{TranslationTo}
 use Rattle.translation.specs.declared.kinds.TranslationTo.TheVariants.{Contiguous, Listed}
 use Rattle.translation.specs.Cuts.{ranges, range_entries}
-use Rattle.translation.specs.Tos.{destination as destination_in, destination_entries}
+use Rattle.translation.specs.Tos.{destination as destination_in}
 use Rattle.translation.specs.Entries.{from_entries, to_entries, from_count, to_count, data_layout, data_count, entries_of, appending, appended}
 use Rattle.translation.specs.declared.kinds.TranslationFault.{TranslationFault}
 use Rattle.translation.specs.declared.kinds.TranslationFault.TheVariants.{Short}
@@ -22,11 +21,10 @@ use Rattle.translation.specs.Laws.{Lawful, LawfulIn, Divided, taken}
 use Rattle.translation.specs.Outcome.{translated}
 use Rattle.translation.proofs.Accepting.{known_in}
 use Rattle.translation.proofs.Meeting.{appends}
-use Rattle.translation.proofs.Entering.{ranges_long, destinations_long, to_long}
+use Rattle.translation.proofs.Entering.{destinations_long, to_long}
 use Rattle.reader.specs.declared.record.BlockRecord.{BlockRecord}
-use Rattle.reader.specs.Rules.{natural, entry, over, over_of, place_of, destination, ranges_reach, list_reach}
-use Rattle.reader.specs.Accepted.{Natural, Ranged, Aimed, Takes, Aims, Accepted}
-use Rattle.reader.specs.Tables.{Reached}
+use Rattle.reader.specs.Rules.{natural, entry, over_of, place_of, ranges_reach, list_reach}
+use Rattle.reader.specs.Accepted.{Takes, Aims}
 use Rattle.reader.specs.Recorded.{record_of, recorded, recorded_by, table_by, table_after, Follows}
 
 -- what was pasted stands there

@@ -1,5 +1,5 @@
 -- The record of a block, made of its translation, and what following it comes to.
-use Rattle.std.specs.Prelude.{◌≡◌, ℕ, ◌+◌, ◌<◌, min, cond, List, [], length, ℤ, Some, Ok, Err, Result, nat_le, slice_index_or}
+use Rattle.std.specs.Prelude.{◌≡◌, ℕ, ◌+◌, ◌<◌, min, cond, List, length, ℤ, Some, Ok, Err, Result, nat_le, slice_index_or}
 use Rattle.std.proofs.Math.Seq.{paste}
 use Rattle.layout.specs.Layouts.{Layout, blank, count, rank, at}
 use Rattle.grouping.specs.Keys.{over_place}

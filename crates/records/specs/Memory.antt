@@ -1,5 +1,5 @@
 -- What the tables and buffers hold between calls: the parts in use.
-use Rattle.std.specs.Prelude.{ℕ, ◌-◌, ◌≤◌, min, Bool, ◌||◌, List, [], length, take, ℤ, pos, None, nat_lt, Float}
+use Rattle.std.specs.Prelude.{ℕ, ◌-◌, min, Bool, ◌||◌, List, [], take, ℤ, None, nat_lt, Float}
 use Rattle.translation.specs.declared.kinds.TranslationFrom.TheVariants.{ElementWise}
 use Rattle.translation.specs.declared.kinds.TranslationTo.TheVariants.{Listed}
 use Rattle.names.specs.declared.variable.Class.TheVariants.{Unstored}

@@ -1,5 +1,5 @@
 -- Texts that are written item by item.
-use Rattle.std.proofs.Common.{◌≡◌, ℕ, ◌+◌, ◌<◌, ◌≤◌, true, cond, ltb, List, [], ◌∷◌, ◌++◌, map, length, get_or, take, IfSome, Some, Option, sym, refl, ap, ◌∙◌, subst, append_assoc, append-nil, arith, length-take-le, lt-ltb}
+use Rattle.std.proofs.Common.{◌≡◌, ℕ, ◌+◌, ◌<◌, ◌≤◌, true, cond, ltb, List, [], ◌∷◌, ◌++◌, map, length, get_or, take, IfSome, Some, Option, sym, refl, ap, ◌∙◌, append_assoc, arith, length-take-le, lt-ltb}
 use lib.ListN.{length-map}
 use Rattle.std.specs.List.{range_with_len, flat_map}
 use Rattle.std.proofs.lemmas.List.FromFn.{map-range_with_len_more}

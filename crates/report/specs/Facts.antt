@@ -1,12 +1,10 @@
 -- Facts as text: one a line.
-use Rattle.std.specs.Prelude.{ℕ, List, [], ◌∷◌, ◌++◌, map, length, get_or, take, codes, decimal}
+use Rattle.std.specs.Prelude.{ℕ, List, [], ◌∷◌, ◌++◌, map, take, codes, decimal}
 use Rattle.std.specs.List.{flat_map}
 use Rattle.std.specs.Fmt.{signed_decimal}
 use Rattle.layout.specs.declared.fault.Report.{Report}
 use Rattle.layout.specs.declared.shape.Shape.{Shape}
-use Rattle.layout.specs.Answers.{shape_of}
 use Rattle.layout.specs.Faults.{reported}
-use Rattle.layout.specs.Layouts.{Layout, blank}
 use Rattle.design.specs.Keywords.{kind_word, layer_word}
 use Rattle.report.specs.declared.answer.Answer.{Answer}
 use Rattle.report.specs.declared.answer.Answer.TheVariants.{Number, Place, Nothing, Refused}

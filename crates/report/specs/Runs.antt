@@ -1,5 +1,5 @@
 -- What a design is answered, or refused for.
-use Rattle.std.specs.Prelude.{◌≡◌, ℕ, ◌<◌, List, [], ◌++◌, map, length, get_or, vec_items, slice_index_or}
+use Rattle.std.specs.Prelude.{◌≡◌, ℕ, ◌<◌, List, ◌++◌, map, length, get_or, vec_items, slice_index_or}
 use Rattle.layout.specs.declared.fault.LayoutFault.TheVariants.{Faulty}
 use Rattle.layout.specs.declared.fault.Rule.{Rule}
 use Rattle.layout.specs.Layouts.{Layout, blank, rank}

@@ -1,5 +1,5 @@
 -- Facts of translations as text.
-use Rattle.std.specs.Prelude.{ℕ, cond, List, [], ◌∷◌, ◌++◌, map, take, drop, ℤ, pos, Ok, Err, codes, decimal, Result, slice_index_or}
+use Rattle.std.specs.Prelude.{ℕ, List, [], ◌∷◌, ◌++◌, map, take, drop, ℤ, pos, Ok, Err, codes, decimal, Result, slice_index_or}
 use Rattle.std.specs.Fmt.{signed_decimal}
 use Rattle.layout.specs.Layouts.{Layout, blank, count}
 use Rattle.translation.specs.declared.kinds.Translation.{Translation}

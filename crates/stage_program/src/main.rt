@@ -3,6 +3,7 @@
 
 use design::fault::Complaint;
 use report::run::{Form, answer_design};
+use std::process::ExitCode;
 use std::{env, fs, io};
 
 const USAGE: &str = "usage: stage [--facts] [FILE]
@@ -109,12 +110,19 @@ fn run(rt: &HostRuntime, task: Task) -> Result<(), Failed> {
     }
 }
 
-fn main(rt: HostRuntime) -> Result<(), Failed> {
-    match read_task(&rt)? {
-        Some(task) => run(&rt, task),
+fn run_task(rt: &HostRuntime) -> Result<(), Failed> {
+    match read_task(rt)? {
+        Some(task) => run(rt, task),
         None => {
             eprintln!(rt; "{USAGE}")?;
             Err(Failed)
         }
+    }
+}
+
+fn main(rt: HostRuntime) -> ExitCode {
+    match run_task(&rt) {
+        Ok(()) => ExitCode::SUCCESS,
+        Err(Failed) => ExitCode::FAILURE,
     }
 }

@@ -1,10 +1,10 @@
 -- What the search of a sparse layout answers is its strict lookup.
-use Rattle.std.proofs.Common.{◌≡◌, ℕ, ◌<◌, ◌≤◌, true, List, map, length, get_or, take, ℤ, Some, None, Option, sym, refl, ap, ◌∙◌, subst, arith, MatchOption}
+use Rattle.std.proofs.Common.{◌≡◌, ℕ, ◌<◌, true, List, length, ℤ, Some, None, Option, sym, ap, ◌∙◌, arith, MatchOption}
 use Rattle.std.proofs.lemmas.List.{length-take}
 use Rattle.std.proofs.lemmas.List.FromFn.{length-map-range_with_len, get_or-map-range_with_len}
 use Rattle.std.specs.Option.{option_map}
 use Rattle.layout.specs.Places.{Place, origin, entries}
-use Rattle.layout.specs.Layouts.{rank, inside, named, strict}
+use Rattle.layout.specs.Layouts.{rank, inside, strict}
 use Rattle.layout.proofs.Finding.{inside_says, strict_absent, strict_outside, strict_inside}
 use Rattle.grid.proofs.Answering.{fours, got_some, got_none, some_same}
 use Rattle.table.specs.declared.record.LayoutRecord.{LayoutRecord}

@@ -1,11 +1,11 @@
 -- What an accepted translation tells.
-use Rattle.std.proofs.Common.{◌≡◌, ℕ, zero, suc, ◌+◌, ◌-◌, ◌<◌, ◌≤◌, min, Bool, true, false, cond, ◌&&◌, ◌||◌, eqb, ltb, ◌⊎◌, List, [], ◌∷◌, length, get_or, ℤ, Some, None, Ok, Err, Option, Result, unwrap_or, sym, refl, ap, ◌∙◌, subst, inl, inr, arith}
-use Rattle.std.proofs.lemmas.Bool.{cases_Bool, cases_lt, and_parts, ltb-true, ltb-false, eqb-true, or_parts}
+use Rattle.std.proofs.Common.{◌≡◌, ℕ, zero, suc, ◌+◌, ◌-◌, ◌<◌, ◌≤◌, min, Bool, true, false, cond, ◌&&◌, eqb, ltb, List, length, get_or, ℤ, Some, None, Ok, Err, Option, Result, unwrap_or, sym, refl, ap, ◌∙◌, inl, inr, arith}
+use Rattle.std.proofs.lemmas.Bool.{cases_lt, and_parts, ltb-true, ltb-false, eqb-true, or_parts}
 use Rattle.layout.specs.Layouts.{Layout, blank, count, rank}
 use Rattle.layout.specs.Answers.{shape_of}
 use Rattle.translation.specs.declared.kinds.TranslationFrom.{TranslationFrom}
 use Rattle.translation.specs.declared.kinds.TranslationTo.{TranslationTo}
-use Rattle.translation.specs.declared.kinds.TranslationTo.TheVariants.{Contiguous, Listed}
+use Rattle.translation.specs.declared.kinds.TranslationTo.TheVariants.{Contiguous}
 use Rattle.translation.specs.declared.kinds.Translation.{Translation}
 use Rattle.translation.specs.declared.kinds.TranslationFault.{TranslationFault}
 use Rattle.translation.specs.declared.kinds.TranslationFault.TheVariants.{Unknown, Start, NoTranslation, Elements, Uncovered, NoDestination}

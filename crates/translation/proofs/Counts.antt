@@ -1,11 +1,11 @@
 -- How many places a dense and a diagonal layout have.
-use Rattle.std.proofs.Common.{◌≡◌, ℕ, zero, suc, ◌+◌, ◌-◌, ◌*◌, ◌/◌, ◌<◌, ◌≤◌, Bool, true, false, cond, ltb, ◌⊎◌, List, [], ◌∷◌, length, get_or, sym, refl, ap, ◌∙◌, subst, inl, inr, arith}
-use Rattle.std.proofs.lemmas.Bool.{cases_lt, cases_order, cases_Bool, lt-ltb, ltb-true, ltb-false, cond_both, cond-true}
+use Rattle.std.proofs.Common.{◌≡◌, ℕ, zero, suc, ◌-◌, ◌*◌, ◌<◌, ◌≤◌, cond, ltb, List, sym, refl, ap, ◌∙◌, subst, inl, inr, arith}
+use Rattle.std.proofs.lemmas.Bool.{cases_lt, cases_order, lt-ltb, ltb-true, cond_both, cond-true}
 use Rattle.std.proofs.lemmas.List.{get_or_past}
 use Rattle.std.proofs.ByRecursion.{All-get_or}
-use Rattle.std.specs.List.{ContainsAt as Has, AllByRecursion as All}
+use Rattle.std.specs.List.{ContainsAt as Has}
 use Rattle.layout.specs.declared.kind.LayoutKind.TheVariants.{Dense, Diagonal}
-use Rattle.layout.specs.Places.{Place, place, origin, Before, Inside, axis}
+use Rattle.layout.specs.Places.{Place, place, origin, Inside, axis}
 use Rattle.layout.specs.Layouts.{Layout, Valid, OfKind, Level, count, rank, at}
 use Rattle.layout.specs.Radix.{size, ravel, unravel, along}
 use Rattle.layout.proofs.Radix.{unravel_inside, unravel_before, ravel_below, unravel_ravel}

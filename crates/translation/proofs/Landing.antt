@@ -1,16 +1,14 @@
 -- Lookups of a start plus a place.
-use Rattle.std.proofs.Common.{◌≡◌, ℕ, zero, suc, ◌+◌, ◌-◌, ◌<◌, ◌≤◌, Bool, true, false, cond, ◌&&◌, ltb, ◌⊎◌, List, [], ◌∷◌, length, get_or, ℤ, pos, ◌+ℤ◌, ◌≤ℤ◌, ◌<ℤ◌, IfSome, Some, None, Ok, Err, Option, Result, sym, refl, ap, ◌∙◌, subst, inl, inr, arith}
+use Rattle.std.proofs.Common.{◌≡◌, ℕ, zero, suc, ◌<◌, ◌≤◌, Bool, ltb, List, [], ◌∷◌, length, get_or, ℤ, pos, ◌≤ℤ◌, ◌<ℤ◌, IfSome, Some, None, Option, sym, refl, ap, ◌∙◌, subst, inl, inr, arith}
 use Rattle.std.proofs.lemmas.Bool.{cases_Bool, lt-ltb, and_from, cond-true}
 use Rattle.std.proofs.lemmas.Int.{ints}
 use Rattle.std.specs.Option.{option_map}
-use Rattle.layout.specs.declared.fault.LayoutFault.{LayoutFault}
-use Rattle.layout.specs.declared.fault.LayoutFault.TheVariants.{Unknown}
-use Rattle.layout.specs.Places.{Place, place, origin, axis, same}
-use Rattle.layout.specs.Layouts.{Layout, Valid, blank, count, rank, at, below, given, four, inside, number, number_of, strict}
-use Rattle.layout.specs.Answers.{index_of, exists, place_asked, number_asked}
+use Rattle.layout.specs.Places.{Place, origin, axis, same}
+use Rattle.layout.specs.Layouts.{Layout, Valid, blank, count, rank, at, below, given, inside, number, number_of, strict}
+use Rattle.layout.specs.Answers.{index_of, exists, place_asked}
 use Rattle.layout.proofs.Finding.{inside_says, strict_outside, same_true}
 use Rattle.grouping.proofs.Keyed.{Small, axis_small}
-use Rattle.translation.specs.Tos.{shift, destination, Told}
+use Rattle.translation.specs.Tos.{shift, Told}
 
 -- in a valid layout a lookup goes by what is inside the shape
 pub strict_by_inside : (l : Layout) (x : List ℤ) → Valid l → strict l x ≡ number_of (inside (rank l) l.shape x) l.places

@@ -1,5 +1,5 @@
 -- An accepted translation is lawful.
-use Rattle.std.proofs.Common.{◌≡◌, ℕ, zero, suc, ◌+◌, ◌-◌, ◌*◌, ◌/◌, ◌<◌, ◌≤◌, min, Bool, true, false, cond, ◌&&◌, eqb, ltb, ◌⊎◌, List, [], ◌∷◌, length, get_or, ℤ, IfOk, Some, None, Ok, Err, filter, Option, Result, sym, refl, ap, ◌∙◌, subst, inl, inr, one-mul, mul-one, div-one, mul-div_cancel, arith, length-append}
+use Rattle.std.proofs.Common.{◌≡◌, ℕ, zero, suc, ◌+◌, ◌-◌, ◌*◌, ◌/◌, ◌<◌, ◌≤◌, min, Bool, true, cond, eqb, ltb, List, [], ◌∷◌, length, get_or, ℤ, IfOk, Some, None, Ok, Err, filter, Option, Result, sym, refl, ap, ◌∙◌, subst, inl, inr, one-mul, mul-one, div-one, mul-div_cancel, arith, length-append}
 use native.Mathlib.Nat.{div_self}
 use Rattle.std.proofs.lemmas.Bool.{cases_Bool, cases_lt, ltb-true, ltb-false, eqb-true, cond_both}
 use Rattle.std.specs.List.{range_with_len, ContainsAt as Has, AllByRecursion as All}
@@ -8,13 +8,12 @@ use Rattle.layout.specs.declared.kind.LayoutKind.TheVariants.{Dense, Diagonal, S
 use Rattle.layout.specs.Places.{axis}
 use Rattle.layout.specs.Layouts.{Layout, Valid, AllValid, count, rank, at}
 use Rattle.layout.specs.Answers.{shape_of}
-use Rattle.layout.specs.Radix.{size}
-use Rattle.grouping.specs.Keys.{key, agrees, tail_size, over_place, Covered, InRuns, by_dense, by_one, by_none, by_single}
+use Rattle.grouping.specs.Keys.{key, agrees, tail_size, over_place, Covered, by_dense, by_one, by_none, by_single}
 use Rattle.grouping.specs.Groups.{Range}
 use Rattle.grouping.proofs.Keyed.{axis_small}
 use Rattle.grouping.proofs.Rules.{contraction, spreading, ranging}
 use Rattle.translation.specs.declared.kinds.TranslationFrom.{TranslationFrom}
-use Rattle.translation.specs.declared.kinds.TranslationFrom.TheVariants.{DenseContraction, DiagonalContraction, SparseContraction, ElementWise, Broadcast}
+use Rattle.translation.specs.declared.kinds.TranslationFrom.TheVariants.{DenseContraction, DiagonalContraction, ElementWise}
 use Rattle.translation.specs.declared.kinds.Translation.{Translation}
 use Rattle.translation.specs.Froms.{contracted, taken_up, spread, widening, from_of}
 use Rattle.translation.specs.Tos.{shift, destination}

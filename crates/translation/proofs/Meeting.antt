@@ -1,6 +1,6 @@
 -- The shapes of layouts that exist, and what is made of them.
-use Rattle.std.proofs.Common.{◌≡◌, ℕ, zero, suc, ◌+◌, ◌-◌, ◌*◌, ◌<◌, ◌≤◌, Bool, true, false, cond, ◌&&◌, eqb, ltb, leb, ◌⊎◌, List, [], ◌∷◌, length, get_or, ℤ, Some, None, Ok, Err, Option, Result, sym, refl, ap, ◌∙◌, subst, inl, inr, mul-le-mul, arith}
-use Rattle.std.proofs.lemmas.Bool.{cases_Bool, ltb-true, lt-ltb, cond-true, cond_both}
+use Rattle.std.proofs.Common.{◌≡◌, ℕ, zero, suc, ◌+◌, ◌-◌, ◌*◌, ◌<◌, ◌≤◌, Bool, true, false, cond, ◌&&◌, eqb, ltb, leb, List, length, get_or, ℤ, Some, None, Ok, Err, Option, sym, refl, ap, ◌∙◌, subst, mul-le-mul, arith}
+use Rattle.std.proofs.lemmas.Bool.{ltb-true, lt-ltb, cond_both}
 use Rattle.layout.specs.declared.kind.LayoutKind.{LayoutKind}
 use Rattle.layout.specs.declared.kind.LayoutKind.TheVariants.{Dense, Diagonal, Sparse}
 use Rattle.layout.specs.declared.shape.Shape.{Shape}
@@ -10,9 +10,8 @@ use Rattle.layout.specs.Answers.{shape_of}
 use Rattle.grouping.specs.Keys.{tail_size}
 use Rattle.grouping.proofs.Keyed.{axis_small}
 use Rattle.translation.specs.declared.kinds.TranslationFrom.{TranslationFrom}
-use Rattle.translation.specs.declared.kinds.TranslationFrom.TheVariants.{DenseContraction, DiagonalContraction, SparseContraction, ElementWise, Broadcast}
+use Rattle.translation.specs.declared.kinds.TranslationFrom.TheVariants.{DenseContraction, DiagonalContraction, ElementWise}
 use Rattle.translation.specs.declared.kinds.Translation.{Translation}
-use Rattle.translation.specs.declared.kinds.TranslationFault.{TranslationFault}
 use Rattle.translation.specs.declared.kinds.TranslationFault.TheVariants.{Unknown, Start, Short}
 use Rattle.translation.specs.Froms.{contracted, taken_up, spread, widening, from_of, Long}
 use Rattle.translation.specs.Tos.{start_refused}

@@ -1,10 +1,9 @@
 -- The ranges of a layout are those of its key.
-use Rattle.std.proofs.Common.{◌≡◌, ℕ, zero, suc, ◌+◌, ◌-◌, ◌<◌, ◌≤◌, Bool, true, false, cond, not, eqb, ◌⊎◌, List, [], ◌∷◌, length, get_or, sym, refl, ap, ◌∙◌, subst, inl, inr, le_of_suc-le-suc, arith}
+use Rattle.std.proofs.Common.{◌≡◌, ℕ, zero, suc, ◌+◌, ◌-◌, ◌<◌, ◌≤◌, Bool, true, false, cond, eqb, List, ◌∷◌, length, get_or, sym, refl, ap, ◌∙◌, subst, inl, inr, le_of_suc-le-suc, arith}
 use Rattle.std.proofs.lemmas.Bool.{cases_Bool, cases_lt, eq-eqb, ne_eqb, not-true, not-false}
-use Rattle.layout.specs.Places.{Agree}
 use Rattle.layout.specs.Layouts.{Layout, Valid, count, at}
 use Rattle.grouping.specs.Groups.{changes, Range}
-use Rattle.grouping.specs.Keys.{key, agrees}
+use Rattle.grouping.specs.Keys.{key}
 use Rattle.grouping.proofs.Keyed.{agree_key, key_agree, small_at}
 use Rattle.translation.specs.Cuts.{cut, ranges_from, ranges}
 use Rattle.translation.proofs.Covering.{agrees_true, agrees_false}

@@ -1,13 +1,13 @@
 -- Destinations rise with the via's places.
-use Rattle.std.proofs.Common.{◌≡◌, ℕ, zero, suc, ◌+◌, ◌-◌, ◌<◌, ◌≤◌, Bool, true, false, cond, not, ◌&&◌, ◌||◌, eqb, ltb, leb, ◌⊎◌, List, [], ◌∷◌, length, get_or, ℤ, pos, negsuc, ◌+ℤ◌, Some, None, Option, sym, refl, ap, ◌∙◌, subst, inl, inr, arith}
+use Rattle.std.proofs.Common.{◌≡◌, ℕ, ◌<◌, ◌≤◌, cond, ltb, List, get_or, ℤ, pos, negsuc, ◌+ℤ◌, Some, None, Option, sym, refl, ap, ◌∙◌, inl, inr, arith}
 use Rattle.std.proofs.lemmas.Int.{ints}
 use Rattle.std.proofs.lemmas.List.{get_or_past}
-use Rattle.std.proofs.lemmas.Bool.{cases_lt, cases_order, cases_Bool, or_parts, and_cases, lt-ltb, le-ltb, le-leb, ltb-false, eqb-true, not-false, true≢false}
-use Rattle.layout.specs.Places.{Place, place, origin, Before, Inside, axis}
-use Rattle.layout.specs.Layouts.{Layout, Valid, count, rank, at, natural, given, four, named, number, number_of, strict}
+use Rattle.std.proofs.lemmas.Bool.{cases_lt, cases_order, lt-ltb, le-ltb}
+use Rattle.layout.specs.Places.{Place, place, Before, Inside}
+use Rattle.layout.specs.Layouts.{Layout, Valid, count, rank, at, natural, four, named, number_of, strict}
 use Rattle.layout.proofs.Finding.{before_other}
 use Rattle.grouping.proofs.Keyed.{inside_at}
-use Rattle.translation.specs.Tos.{is_zero, strays_at, strays, start_refused, shift, destination}
+use Rattle.translation.specs.Tos.{shift, destination}
 use Rattle.translation.proofs.Landing.{number_says}
 
 none_some : {X : Type 0} (x : X) → None ≡ Some x → ⊥

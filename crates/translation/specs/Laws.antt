@@ -1,5 +1,5 @@
 -- What an accepted translation is good for.
-use Rattle.std.specs.Prelude.{◌≡◌, ℕ, ◌+◌, ◌-◌, ◌*◌, ◌/◌, ◌<◌, ◌≤◌, min, List, [], ◌∷◌, length, get_or, ℤ, Some, None, Ok, Err, Result, slice_index_or}
+use Rattle.std.specs.Prelude.{◌≡◌, ℕ, ◌+◌, ◌-◌, ◌*◌, ◌/◌, ◌<◌, ◌≤◌, min, List, [], ◌∷◌, length, get_or, ℤ, Some, Ok, slice_index_or}
 use Rattle.std.specs.List.{range_with_len, ContainsAt as Has}
 use Rattle.layout.specs.Places.{Agree}
 use Rattle.layout.specs.Layouts.{Layout, AllValid, blank, count, rank, at}

@@ -1,10 +1,10 @@
-use Rattle.std.proofs.Common.{◌≡◌, [], ◌∷◌, codes, refl, ap, ◌∙◌, subst, arith, rules}
+use Rattle.std.proofs.Common.{◌≡◌, [], ◌∷◌, codes, refl, subst, arith, rules}
 use Rattle.std.specs.Str.Parse.{ParsesUnsigned}
 use Rattle.std.proofs.lemmas.Slice.{pushed}
 use Rattle.std.proofs.lemmas.Slice.Eq.{slice_eq-Decides}
 use Rattle.std.proofs.lemmas.Bool.Decides.{Decides-eqb}
 use Rattle.design.specs.Lines.{unread}
-use Rattle.design.proofs.Listing.{none_yet, few, one_entry, one_comma, listed, unlisted}
+use Rattle.design.proofs.Listing.{none_yet, few, one_entry, one_comma, unlisted}
 use Rattle.design.proofs.Said.{natural_read}
 use Rattle.design.proofs.layout_line.read_places.Goals as goal
 

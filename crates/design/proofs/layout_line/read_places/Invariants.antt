@@ -1,4 +1,4 @@
-use Rattle.std.proofs.Common.{◌≡◌, ◌<◌, ◌≤◌, length, vec_items}
+use Rattle.std.proofs.Common.{◌<◌, ◌≤◌, length, vec_items}
 use Rattle.design.specs.Lines.{unread}
 use Rattle.design.proofs.Listing.{Sofar}
 use Rattle.design.proofs.layout_line.read_places.Given as goal

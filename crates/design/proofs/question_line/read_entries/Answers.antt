@@ -1,4 +1,4 @@
-use Rattle.std.proofs.Common.{pos, sym, ap, ◌∙◌, arith}
+use Rattle.std.proofs.Common.{pos, ap, ◌∙◌, arith}
 use Rattle.design.specs.Numbers.{four}
 use Rattle.design.proofs.Said.{integer_read, entries_said}
 use Rattle.design.proofs.question_line.read_entries.Goals as goal

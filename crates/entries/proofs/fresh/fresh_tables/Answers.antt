@@ -1,4 +1,4 @@
-use Rattle.std.proofs.Common.{◌≡◌, ◌++◌, take, sym, ap, ◌∙◌, arith}
+use Rattle.std.proofs.Common.{◌++◌, take, ap, ◌∙◌, arith}
 use Rattle.expression.specs.Letterings.{letters_of}
 use Rattle.entries.specs.Needed.{needed}
 use Rattle.entries.specs.Fresh.{keys_of, added}

@@ -1,4 +1,3 @@
-use Rattle.std.proofs.Common.{sym, ap}
 use Rattle.layout.specs.Answers.{shape_of}
 use Rattle.expression.specs.Letterings.{letters_of}
 use Rattle.names.proofs.Scalars.{refused_past}

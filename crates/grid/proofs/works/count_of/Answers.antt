@@ -1,4 +1,4 @@
-use Rattle.std.proofs.Common.{◌≡◌, sym, ap, ◌∙◌, rules}
+use Rattle.std.proofs.Common.{sym, ap, ◌∙◌}
 use Rattle.layout.specs.Radix.{size}
 use Rattle.grid.proofs.Answering.{count_dense, count_diagonal}
 use Rattle.grid.proofs.works.count_of.Goals as goal

@@ -1,4 +1,4 @@
-use Rattle.std.proofs.Common.{◌≡◌, length, get_or, arith, w64, SFits, rules}
+use Rattle.std.proofs.Common.{◌≡◌, length, arith, w64, SFits, rules}
 use Rattle.std.proofs.lemmas.List.{get_or_default}
 use Rattle.std.proofs.lemmas.Int.{to_z-of_z}
 use Rattle.layout.proofs.index.entry_inside.Goals as goal

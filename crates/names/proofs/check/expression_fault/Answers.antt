@@ -1,4 +1,4 @@
-use Rattle.std.proofs.Common.{◌≤◌, sym, ap, subst}
+use Rattle.std.proofs.Common.{◌≤◌, sym, subst}
 use Rattle.layout.specs.declared.shape.Shape.{Shape}
 use Rattle.names.proofs.Standing.{ranked}
 use Rattle.names.proofs.check.expression_fault.Goals as goal

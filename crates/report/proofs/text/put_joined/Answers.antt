@@ -1,4 +1,4 @@
-use Rattle.std.proofs.Common.{◌≡◌, cond, ltb, [], ◌++◌, map, take, string_bytes, sym, ap, ◌∙◌, arith}
+use Rattle.std.proofs.Common.{◌≡◌, cond, ltb, [], ◌++◌, map, take, string_bytes, ap, ◌∙◌, arith}
 use Rattle.report.specs.Facts.{separated}
 use Rattle.report.proofs.Texts.{all_taken, more_separated, written}
 use Rattle.report.proofs.text.put_joined.Goals as goal

@@ -1,4 +1,4 @@
-use Rattle.std.proofs.Common.{◌≡◌, true, get_or, sym, ap, ◌∙◌, rules, below_more}
+use Rattle.std.proofs.Common.{◌≡◌, true, get_or, sym, ap, ◌∙◌, below_more}
 use Rattle.layout.specs.Rules.{none}
 use Rattle.table.specs.Records.{kept, no_record}
 use Rattle.table.proofs.rules.check_records.Goals as goal

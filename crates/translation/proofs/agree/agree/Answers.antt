@@ -1,5 +1,5 @@
 use Rattle.std.proofs.Common.{◌≡◌, ◌<◌, length, get_or, pos, sym, refl, ◌∙◌, arith, rules, below_more}
-use Rattle.std.proofs.lemmas.Bool.{false≢true, true≢false}
+use Rattle.std.proofs.lemmas.Bool.{false≢true}
 use Rattle.translation.proofs.Fronts.{take_same, take_at_same}
 use Rattle.translation.proofs.agree.agree.Goals as goal
 

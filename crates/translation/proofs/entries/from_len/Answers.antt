@@ -1,4 +1,4 @@
-use Rattle.std.proofs.Common.{◌≡◌, ◌*◌, length, get_or, sym, ap, ◌∙◌, arith}
+use Rattle.std.proofs.Common.{◌*◌, length, get_or, sym, ap, ◌∙◌, arith}
 use Rattle.layout.specs.Layouts.{blank}
 use Rattle.translation.specs.Entries.{from_entries}
 use Rattle.translation.specs.Cuts.{ranges}

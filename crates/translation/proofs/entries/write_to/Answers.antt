@@ -1,7 +1,6 @@
-use Rattle.std.proofs.Common.{◌≡◌, ℕ, ◌+◌, ◌≤◌, length, get_or, sym, ap, ◌∙◌, subst, arith}
-use lib.Seq.{paste}
+use Rattle.std.proofs.Common.{length, get_or, ap, ◌∙◌, arith}
 use Rattle.layout.specs.Layouts.{blank}
-use Rattle.translation.specs.Tos.{destination, destination_entries}
+use Rattle.translation.specs.Tos.{destination}
 use Rattle.translation.specs.Entries.{to_entries}
 use Rattle.translation.proofs.Entering.{nothing, destinations_long, listed}
 use Rattle.translation.proofs.entries.write_to.Goals as goal

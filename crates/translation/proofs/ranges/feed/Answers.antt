@@ -1,4 +1,4 @@
-use Rattle.std.proofs.Common.{◌≡◌, ◌-◌, Bool, List, get_or, ℤ, Some, Decides, sym, ap, ◌∙◌, subst}
+use Rattle.std.proofs.Common.{◌-◌, Bool, List, get_or, ℤ, Some, Decides, ap, ◌∙◌, subst}
 use Rattle.layout.specs.Layouts.{blank, at}
 use Rattle.layout.specs.Answers.{index_of}
 use Rattle.layout.proofs.Sameness.{place_is}

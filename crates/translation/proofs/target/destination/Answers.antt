@@ -1,4 +1,4 @@
-use Rattle.std.proofs.Common.{◌≡◌, ℕ, ◌<◌, get_or, ℤ, pos, ◌≤ℤ◌, ◌<ℤ◌, IfSome, sym, ap, ◌∙◌, subst, rules}
+use Rattle.std.proofs.Common.{ℕ, ◌<◌, get_or, pos, ◌≤ℤ◌, ◌<ℤ◌, IfSome, sym, ◌∙◌, subst}
 use Rattle.layout.specs.Layouts.{blank, at}
 use Rattle.layout.specs.Answers.{index_of}
 use Rattle.grouping.proofs.Keyed.{small_at}

@@ -1,4 +1,4 @@
-use Rattle.std.proofs.Common.{◌≡◌, ◌<◌, ◌≤◌, min, get_or, sym, ap, ◌∙◌, arith, rules}
+use Rattle.std.proofs.Common.{min, get_or, ap, arith}
 use Rattle.layout.specs.declared.shape.Shape.{Shape}
 use Rattle.layout.specs.Layouts.{blank, rank}
 use Rattle.translation.proofs.Covering.{covered_by, covered_by_other}

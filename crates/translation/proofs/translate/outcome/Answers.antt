@@ -1,7 +1,7 @@
-use Rattle.std.proofs.Common.{◌≡◌, ℕ, ◌≤◌, true, false, get_or, Some, None, sym, refl, ap, ◌∙◌, subst, arith, rules}
+use Rattle.std.proofs.Common.{ℕ, ◌≤◌, true, false, get_or, Some, None, sym, refl, ◌∙◌, subst}
 use Rattle.layout.specs.declared.shape.Shape.{Shape}
 use Rattle.layout.specs.Places.{axis}
-use Rattle.layout.specs.Layouts.{blank, rank}
+use Rattle.layout.specs.Layouts.{blank}
 use Rattle.translation.specs.Froms.{from_of}
 use Rattle.translation.proofs.Meeting.{measured_says, lengths_high, lengths_low, from_long, translates}
 use Rattle.translation.proofs.translate.outcome.Goals as goal

@@ -1,4 +1,4 @@
-use Rattle.std.proofs.Common.{◌≡◌, ℕ, [], ◌∷◌, sym, refl, subst, arith}
+use Rattle.std.proofs.Common.{◌≡◌, ℕ, sym, refl, subst, arith}
 use Rattle.design.specs.Blames.{Blames}
 use Rattle.design.specs.declared.fault.Expected.TheVariants.{End}
 use Rattle.design.proofs.words.Words.end.Goals as goal

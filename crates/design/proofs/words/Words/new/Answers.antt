@@ -1,4 +1,4 @@
-use Rattle.std.proofs.Common.{◌≡◌, IsUtf8, sym, subst, rules}
+use Rattle.std.proofs.Common.{IsUtf8, sym, subst, rules}
 use Rattle.design.proofs.Runs.{Whole, whole}
 use Rattle.design.proofs.words.Words.new.Goals as goal
 

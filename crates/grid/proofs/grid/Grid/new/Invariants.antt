@@ -1,4 +1,4 @@
-use Rattle.std.proofs.Common.{◌≡◌, ℕ, ◌<◌, true, length, get_or}
+use Rattle.std.proofs.Common.{◌≡◌, ℕ, ◌<◌, true, get_or}
 use Rattle.grid.specs.Grids.{sound, no_shape}
 use Rattle.grid.proofs.grid.Grid.new.Given as goal
 

@@ -1,9 +1,5 @@
-use Rattle.std.proofs.Common.{◌≡◌, ◌<◌, ◌≤◌, length, get_or, Ok, Err, sym, ap, ◌∙◌, arith, rules}
-use Rattle.layout.specs.Layouts.{strict}
-use Rattle.layout.specs.Answers.{shape_of}
-use Rattle.layout.proofs.Asking.{asked_there, asked_not, place_there, place_not}
-use Rattle.grid.specs.Grids.{grid_layout, grid_layouts, no_shape}
-use Rattle.grid.proofs.Kept.{kept_length, kept_at, kept_valid}
+use Rattle.std.proofs.Common.{sym}
+use Rattle.grid.proofs.Kept.{kept_length, kept_valid}
 use Rattle.grid.proofs.grid.GridCatalogue.count.Goals as goal
 
 pub returns : goal.returns

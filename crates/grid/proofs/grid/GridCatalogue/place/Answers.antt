@@ -1,7 +1,5 @@
-use Rattle.std.proofs.Common.{◌≡◌, ◌<◌, ◌≤◌, length, get_or, Ok, Err, sym, ap, ◌∙◌, arith, rules}
-use Rattle.layout.specs.Layouts.{strict}
-use Rattle.layout.specs.Answers.{shape_of}
-use Rattle.layout.proofs.Asking.{asked_there, asked_not, place_there, place_not}
+use Rattle.std.proofs.Common.{get_or, ◌∙◌, arith}
+use Rattle.layout.proofs.Asking.{place_there, place_not}
 use Rattle.grid.specs.Grids.{grid_layout, grid_layouts, no_shape}
 use Rattle.grid.proofs.Kept.{kept_length, kept_at}
 use Rattle.grid.proofs.grid.GridCatalogue.place.Goals as goal

@@ -1,6 +1,5 @@
-use Rattle.std.proofs.Common.{◌≡◌, ℕ, ◌+◌, min, Bool, true, false, leb, length, get_or, Ok, sym, ap, ◌∙◌}
+use Rattle.std.proofs.Common.{◌≡◌, ℕ, ◌+◌, min, Bool, true, false, leb, length, get_or, Ok, ap, ◌∙◌}
 use Rattle.layout.specs.Layouts.{blank}
-use Rattle.translation.specs.Entries.{data_count}
 use Rattle.reader.specs.declared.record.BlockRecord.{BlockRecord}
 use Rattle.reader.specs.Recorded.{record_of}
 use Rattle.reader.proofs.Recording.{answers, leaves, fills, follows_in}

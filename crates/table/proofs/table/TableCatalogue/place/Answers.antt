@@ -1,7 +1,5 @@
-use Rattle.std.proofs.Common.{◌≡◌, ◌<◌, ◌≤◌, length, get_or, Ok, Err, sym, ap, ◌∙◌, arith, rules}
-use Rattle.layout.specs.Layouts.{strict}
-use Rattle.layout.specs.Answers.{shape_of}
-use Rattle.layout.proofs.Asking.{asked_there, asked_not, place_there, place_not}
+use Rattle.std.proofs.Common.{◌<◌, ◌≤◌, length, get_or, ◌∙◌, arith, rules}
+use Rattle.layout.proofs.Asking.{place_there, place_not}
 use Rattle.table.specs.Records.{record_layout, table_layouts, no_record}
 use Rattle.table.proofs.Kept.{kept_length, kept_at}
 use Rattle.table.proofs.table.TableCatalogue.place.Goals as goal

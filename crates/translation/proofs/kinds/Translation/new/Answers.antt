@@ -1,4 +1,3 @@
-use Rattle.std.proofs.Common.{◌≡◌, sym}
 use Rattle.translation.proofs.Lawfulness.{laws_of, over_listed}
 use Rattle.translation.proofs.kinds.Translation.new.Goals as goal
 

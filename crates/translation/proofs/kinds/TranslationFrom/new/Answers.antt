@@ -1,4 +1,4 @@
-use Rattle.std.proofs.Common.{◌≡◌, ℕ, ◌≤◌, cond, get_or, Some, None, Ok, Err, sym, ap, ◌∙◌, subst, arith}
+use Rattle.std.proofs.Common.{ℕ, ◌≤◌, cond, get_or, Some, None, Ok, Err, sym, ap, ◌∙◌, subst, arith}
 use Rattle.layout.specs.declared.shape.Shape.{Shape}
 use Rattle.layout.specs.Layouts.{blank}
 use Rattle.translation.specs.declared.kinds.TranslationFault.TheVariants.{Elements}

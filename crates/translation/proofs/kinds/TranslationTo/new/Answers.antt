@@ -1,7 +1,7 @@
-use Rattle.std.proofs.Common.{◌≡◌, ◌+◌, ◌<◌, ◌≤◌, get_or, sym, ap, ◌∙◌, arith, rules}
+use Rattle.std.proofs.Common.{get_or, sym, arith}
 use Rattle.layout.specs.Layouts.{blank}
 use Rattle.translation.specs.Tos.{destination}
-use Rattle.translation.proofs.Going.{going_first, to_none, going_more, going_none, going_end}
+use Rattle.translation.proofs.Going.{going_first, to_none, going_more, going_none}
 use Rattle.translation.proofs.kinds.TranslationTo.new.Goals as goal
 
 pub returns-in_default : goal.returns-in_default
