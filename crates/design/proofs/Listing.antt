@@ -1,6 +1,6 @@
 -- The places of a sparse layout, word by word.
 use Rattle.std.proofs.Common.{◌≡◌, ℕ, ◌+◌, ◌*◌, ◌<◌, ◌≤◌, List, [], ◌∷◌, ◌++◌, length, codes, sym, refl, ap, ◌∙◌, subst, inl, inr, append_assoc, append-nil, suc-mul, le-mul_of_pos_right, arith, length-append}
-use Rattle.std.specs.List.{flat_map, AllByRecursion as All}
+use Rattle.std.specs.List.{flat_map, AllByRecursion}
 use Rattle.std.proofs.ByRecursion.{All-push}
 use Rattle.std.proofs.lemmas.List.{flat_map_more, length_push}
 use Rattle.design.specs.Lines.{natural, ended, Pooled}
@@ -18,14 +18,14 @@ pub record Sofar (rank : ℕ) (all rest : List (List ℕ)) (before now : List �
   pub split : all ≡ flat_map ended places ++ (last ++ rest)
   pub said : Says natural (flat places ++ last) es
   pub pooled : now ≡ before ++ es
-  pub even : All (λ p. length p ≡ rank) places
+  pub even : AllByRecursion (λ p. length p ≡ rank) places
   pub many : length places ≡ place
   pub part : length last ≡ entries
 
 pub none_yet : (rank : ℕ) (all : List (List ℕ)) (before : List ℕ) → Sofar rank all all before before 0 0
 none_yet rank all before = record { places = []; last = []; es = []; split = refl; said = tt; pooled = sym (append-nil before); even = tt; many = refl; part = refl }
 
-flat_length : (rank : ℕ) (ps : List (List (List ℕ))) → All (λ p. length p ≡ rank) ps → length (flat ps) ≡ length ps * rank
+flat_length : (rank : ℕ) (ps : List (List (List ℕ))) → AllByRecursion (λ p. length p ≡ rank) ps → length (flat ps) ≡ length ps * rank
 flat_length rank [] h = omega arith
 flat_length rank (p ∷ ps) h = omega (arith, length-append p (flat ps), h.0, flat_length rank ps h.1, suc-mul (length ps) rank)
 

@@ -1,6 +1,6 @@
 -- What the words of a line say.
 use Rattle.std.specs.Prelude.{◌≡◌, ℕ, ◌+◌, ◌≤◌, ◌⊎◌, List, [], ◌∷◌, ◌++◌, length, ℤ, pos, codes}
-use Rattle.std.specs.List.{flat_map, AllByRecursion as All}
+use Rattle.std.specs.List.{flat_map, AllByRecursion}
 use Rattle.std.specs.Str.Parse.{IsNumeral, digits_value, without_leading_plus, without_leading_sign, signed_digits_value}
 use Rattle.layout.specs.declared.kind.LayoutKind.{LayoutKind}
 use Rattle.layout.specs.declared.kind.LayoutKind.TheVariants.{Dense, Diagonal, Sparse}
@@ -32,7 +32,7 @@ pub record Listed (rank : ℕ) (ws : List (List ℕ)) (count : ℕ) (es : List �
   pub last : List (List ℕ)
   pub split : ws ≡ flat_map ended places ++ last
   pub said : Says natural (flat_map (λ place. place) places ++ last) es
-  pub even : All (λ place. length place ≡ rank) places
+  pub even : AllByRecursion (λ place. length place ≡ rank) places
   pub whole : length last ≡ rank
   pub many : count ≡ length places + 1
 

@@ -3,7 +3,7 @@ use Rattle.std.proofs.Common.{◌≡◌, ℕ, suc, ◌+◌, ◌-◌, ◌≤◌, 
 use lib.Ieee.{Float, nan}
 use Rattle.std.proofs.lemmas.List.{length-append, length-take, drop_at, take_at, take-append-drop, drop-drop}
 use Rattle.std.proofs.lemmas.Bool.{and_parts, eqb-true}
-use Rattle.std.specs.List.{AllByRecursion as All}
+use Rattle.std.specs.List.{AllByRecursion}
 use Rattle.expression.specs.declared.node.Letters.{Letters}
 use Rattle.expression.specs.declared.node.Node.{Node}
 use Rattle.expression.specs.declared.node.Node.TheVariants.{Number, Name, Binary, Unary, Call}
@@ -99,7 +99,7 @@ module _ (host : ℕ → List Float → Option Float) (read read' : ℕ → Lett
   node_same (Unary o) xs h = refl
   node_same (Call c n) xs h = refl
 
-  run_same : (i : ℕ) (ns : List Node) (s : List Float) → All (Agrees read read') ns → run (node_value host read) i ns s ≡ run (node_value host read') i ns s
+  run_same : (i : ℕ) (ns : List Node) (s : List Float) → AllByRecursion (Agrees read read') ns → run (node_value host read) i ns s ≡ run (node_value host read') i ns s
   run_same i [] s h = refl
   run_same i (n ∷ ns) s h =
       ap (λ o. found_at i o (λ x. run (node_value host read) (i + 1) ns (take (length s - takes n) s ++ x ∷ []))) (node_same n (drop (length s - takes n) s) h.0)

@@ -2,7 +2,7 @@
 use Rattle.std.specs.Prelude.{◌≡◌, ℕ, ◌+◌, ◌-◌, ◌*◌, ◌/◌, ◌<◌, ◌≤◌, true, List, [], ◌∷◌, ◌++◌, length, Some, Ok, Option, slice_index_or, Float}
 use Rattle.std.specs.Float.Ieee.{le}
 use Rattle.std.specs.Float.{float_zero, nan}
-use Rattle.std.specs.List.{AllByRecursion as All}
+use Rattle.std.specs.List.{AllByRecursion}
 use Rattle.expression.specs.declared.node.Letters.{Letters}
 use Rattle.expression.specs.declared.node.Node.{Node}
 use Rattle.expression.specs.declared.node.Node.TheVariants.{Number, Name, Binary, Unary, Call}
@@ -40,7 +40,7 @@ Agrees read read' (Call c n) = Unit {0}
 abbrev pub ReadsDecide : Type 0
 ReadsDecide =
     (host : ℕ → List Float → Option Float) (read read' : ℕ → Letters → Float) (ns : List Node)
-    → All (Agrees read read') ns
+    → AllByRecursion (Agrees read read') ns
     → evaluated (node_value host read) ns ≡ evaluated (node_value host read') ns
 
 -- condition i of a piecewise holds

@@ -5,7 +5,7 @@ use Rattle.std.proofs.lemmas.Bool.Decides.{nat_tests}
 use Rattle.std.proofs.lemmas.List.{length-take, get_or_past}
 use Rattle.std.proofs.ByRecursion.{All-from_get_or}
 use Rattle.std.proofs.lemmas.List.FromFn.{length-map-range_with_len, get_or-map-range_with_len}
-use Rattle.std.specs.List.{AllByRecursion as All}
+use Rattle.std.specs.List.{AllByRecursion}
 use Rattle.layout.specs.declared.kind.LayoutKind.{LayoutKind}
 use Rattle.layout.specs.declared.kind.LayoutKind.TheVariants.{Dense, Diagonal, Sparse}
 use Rattle.layout.specs.Places.{Place, place, origin, Inside, axis}
@@ -35,7 +35,7 @@ axes_say s h (suc (suc (suc zero))) l = range_says (axis s 3) (axes_parts s h).3
 axes_say s h (suc (suc (suc (suc i)))) l = absurd (omega arith)
 
 module _ (s : List ℕ) (few : length s ≤ 4) (h : axes_in_range s ≡ true) where
-  axes_all : All (λ n. (1 ≤ n) × (n ≤ 4096)) s
+  axes_all : AllByRecursion (λ n. (1 ≤ n) × (n ≤ 4096)) s
   axes_all = All-from_get_or (λ n. (1 ≤ n) × (n ≤ 4096)) s 1 (λ i l. axes_say s h i (omega arith))
 
   pos_at : (i : ℕ) → i < 4 → 1 ≤ axis s i

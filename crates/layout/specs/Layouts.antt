@@ -1,7 +1,7 @@
 -- What a layout is, and the two lookups.
 use Rattle.std.specs.Prelude.{◌≡◌, ℕ, suc, ◌<◌, ◌≤◌, cond, List, [], ◌∷◌, length, ℤ, pos, negsuc, Some, None, Option, ◌==◌, nat_lt, slice_index_or}
 use Rattle.std.specs.Option.{option_map}
-use Rattle.std.specs.List.{ContainsAt as Has, AllByRecursion as All}
+use Rattle.std.specs.List.{ContainsAt as Has, AllByRecursion}
 use Rattle.layout.specs.declared.kind.LayoutKind.{LayoutKind}
 use Rattle.layout.specs.declared.kind.LayoutKind.TheVariants.{Dense, Diagonal, Sparse}
 use Rattle.layout.specs.Places.{Place, place, origin, Before, Inside, axis, same}
@@ -33,16 +33,16 @@ abbrev pub OfKind : LayoutKind → Layout → Type 0
 OfKind Dense l = (p : Place) → Inside l.shape p → Has l.places p
 OfKind Diagonal l =
     (1 ≤ rank l) × ((i : ℕ) → i < rank l → axis l.shape i ≡ axis l.shape 0)
-    × All (Level (rank l)) l.places
+    × AllByRecursion (Level (rank l)) l.places
     × ((p : Place) → Inside l.shape p → Level (rank l) p → Has l.places p)
 OfKind Sparse l = 1 ≤ rank l
 
 pub record Valid (l : Layout) : Type 0 where
   pub ranked : rank l ≤ 4
-  pub axes : All (λ n. (1 ≤ n) × (n ≤ 4096)) l.shape
+  pub axes : AllByRecursion (λ n. (1 ≤ n) × (n ≤ 4096)) l.shape
   pub some : 1 ≤ count l
   pub many : count l ≤ 65536
-  pub inside : All (Inside l.shape) l.places
+  pub inside : AllByRecursion (Inside l.shape) l.places
   pub ascending : (j k : ℕ) → j < k → k < count l → Before (at l j) (at l k)
   pub of_kind : OfKind l.kind l
 

@@ -1,6 +1,6 @@
 //! The first clash of a new block with the earlier blocks of its tensor.
 ghost use Rattle.std.specs.Prelude.{◌≡◌, ℕ, ◌<◌, length, if◌then◌else◌, None, nat_eq, slice_index_or};
-ghost use Rattle.std.specs.List.{AllByRecursion as All};
+ghost use Rattle.std.specs.List.{AllByRecursion};
 ghost use Rattle.layout.specs.Layouts.{AllValid, blank};
 ghost use Rattle.translation.specs.Laws.{LawfulIn};
 ghost use Rattle.reader.specs.Rules.{destination};
@@ -53,7 +53,7 @@ fn clash_among<C: Catalogue>(
     tensor: usize,
 ) -> Option<usize>
     requires fitting { Fitting (C.layouts catalogue.now) new }
-    requires orderly { All (λ e. Orderly e.read indices.now) blocks.now }
+    requires orderly { AllByRecursion (λ e. Orderly e.read indices.now) blocks.now }
     ensures { result ≡ first_that (λ k. stored_at blocks.now indices.now tensor (goes (C.layouts catalogue.now) new k)) new.count }
 {
     let mut first = None;
@@ -83,7 +83,7 @@ pub fn first_clash<C: Catalogue>(
     requires via { via < length (C.layouts catalogue.now) }
     requires target { target < length (C.layouts catalogue.now) }
     requires lawful { (source : ℕ) × LawfulIn (C.layouts catalogue.now) source via start target translation }
-    requires orderly { All (λ e. Orderly e.read indices.now) blocks.now }
+    requires orderly { AllByRecursion (λ e. Orderly e.read indices.now) blocks.now }
     ensures { result ≡ first_clash blocks.now indices.now tensor (slice_index_or (C.layouts catalogue.now) via blank) start (slice_index_or (C.layouts catalogue.now) target blank) }
 {
     let new = NewBlock {

@@ -1,6 +1,6 @@
 //! The refusals of a block by itself, in their order.
 ghost use Rattle.std.specs.Prelude.{◌≡◌, List, IfOk, Ok, slice_index_or, Float};
-ghost use Rattle.std.specs.List.{AllByRecursion as All};
+ghost use Rattle.std.specs.List.{AllByRecursion};
 ghost use Rattle.layout.specs.Layouts.{AllValid, blank};
 ghost use Rattle.translation.specs.Laws.{LawfulIn};
 ghost use Rattle.overlap.specs.Clashes.{Orderly, first_clash as first_clash_of};
@@ -97,7 +97,7 @@ fn find_clash<C: Catalogue>(
     requires valid { AllValid (C.layouts c.now) }
     requires accepted { translated (C.layouts c.now) call.source call.via call.start target.layout ≡ Ok translation }
     requires lawful { LawfulIn (C.layouts c.now) call.source call.via call.start target.layout translation }
-    requires orderly { All (λ e. Orderly e.read indices.now) blocks.now }
+    requires orderly { AllByRecursion (λ e. Orderly e.read indices.now) blocks.now }
     ensures { result ≡ first_clash_of blocks.now indices.now number (slice_index_or (C.layouts c.now) call.via blank) call.start (slice_index_or (C.layouts c.now) target.layout blank) }
 {
     first_clash(
@@ -124,7 +124,7 @@ pub fn check_block<C: Catalogue>(
     call: BlockCall,
     nodes: &[Node],
 ) -> Result<Translation, BlockFault>
-    requires { All (λ e. Orderly e.read indices.now) blocks.now }
+    requires { AllByRecursion (λ e. Orderly e.read indices.now) blocks.now }
     ensures is { (n : Counts) (ts : List TensorRecord) (ks : List BinaryRecord) (cs : List Float) → result ≡ block_checked (C.layouts c.now) (holding n ts blocks.now variables.now ks cs indices.now) number target call nodes.now }
     ensures lawful { IfOk result (LawfulIn (C.layouts c.now) call.source call.via call.start target.layout) }
     ensures valid { AllValid (C.layouts c.now) }

@@ -8,7 +8,7 @@ ghost use Rattle.design.specs.Texts.{words};
 
 use crate::answer::{Answer, find_answer, number_answer, place_answer};
 use crate::text::{put_joined, put_refusal};
-use crate::translation::{put_from, put_trans};
+use crate::translations::{put_from, put_trans};
 use design::ask::{Ask, Question};
 use design::names::kind_name;
 use design::words::Words;

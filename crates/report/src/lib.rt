@@ -7,5 +7,5 @@ pub mod picture;
 pub mod report;
 pub mod run;
 pub mod text;
-pub mod translation;
+pub mod translations;
 pub mod words;

@@ -4,7 +4,7 @@ ghost use Rattle.translation.specs.Entries.{data_count};
 ghost use Rattle.translation.specs.Entries.{entries_of as entries_between};
 
 use crate::text::put_joined;
-use crate::translation::entries_of;
+use crate::translations::entries_of;
 use design::names::layer_name;
 use layout::catalogue::Catalogue;
 use layout::index::Index;

@@ -2,7 +2,7 @@
 use Rattle.std.proofs.Common.{◌≡◌, ℕ, zero, suc, ◌+◌, ◌-◌, ◌*◌, ◌/◌, ◌<◌, ◌≤◌, min, Bool, true, cond, eqb, ltb, List, [], ◌∷◌, length, get_or, ℤ, IfOk, Some, None, Ok, Err, filter, Option, Result, sym, refl, ap, ◌∙◌, subst, inl, inr, one-mul, mul-one, div-one, mul-div_cancel, arith, length-append}
 use native.Mathlib.Nat.{div_self}
 use Rattle.std.proofs.lemmas.Bool.{cases_Bool, cases_lt, ltb-true, ltb-false, eqb-true, cond_both}
-use Rattle.std.specs.List.{range_with_len, ContainsAt as Has, AllByRecursion as All}
+use Rattle.std.specs.List.{range_with_len, ContainsAt as Has, AllByRecursion}
 use Rattle.layout.specs.declared.kind.LayoutKind.{LayoutKind}
 use Rattle.layout.specs.declared.kind.LayoutKind.TheVariants.{Dense, Diagonal, Sparse}
 use Rattle.layout.specs.Places.{axis}
@@ -173,7 +173,7 @@ laws_of ls source via target x (Ok t) valid e = laws ls source via target x t va
 laws_of ls source via target x (Err f) valid e = tt
 
 -- a number is kept of a counting exactly if it is counted and passes the test
-counted_in : (a n : ℕ) → All (λ i. i < a + n) (range_with_len a n)
+counted_in : (a n : ℕ) → AllByRecursion (λ i. i < a + n) (range_with_len a n)
 counted_in a zero = tt
 counted_in a (suc n) = (omega arith, All-weaker (λ i. i < a + 1 + n) (λ i. i < a + suc n) (λ i h. omega arith) (range_with_len (a + 1) n) (counted_in (a + 1) n))
 

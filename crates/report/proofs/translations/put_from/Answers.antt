@@ -1,6 +1,6 @@
 use Rattle.std.proofs.Common.{length, ap, ◌∙◌, append-nil, arith}
 use Rattle.report.proofs.Sourced.{known_kind}
-use Rattle.report.proofs.translation.put_from.Goals as goal
+use Rattle.report.proofs.translations.put_from.Goals as goal
 
 pub put_made-requires : goal.put_made-requires
 put_made-requires g c =

@@ -3,7 +3,7 @@ use Rattle.std.specs.Fmt.{signed_decimal}
 use Rattle.std.proofs.lemmas.List.{take_all}
 use Rattle.std.proofs.lemmas.Result.{IfOk-weaker}
 use Rattle.report.specs.Facts.{separated}
-use Rattle.report.proofs.translation.put_entries.Goals as goal
+use Rattle.report.proofs.translations.put_entries.Goals as goal
 
 pub returns : goal.returns
 returns c =

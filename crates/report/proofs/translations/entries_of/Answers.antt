@@ -5,7 +5,7 @@ use Rattle.std.proofs.lemmas.List.Edits.{paste_all}
 use lib.Seq.{paste}
 use Rattle.translation.specs.Entries.{entries_of, appended}
 use Rattle.translation.proofs.Meeting.{appends}
-use Rattle.report.proofs.translation.entries_of.Goals as goal
+use Rattle.report.proofs.translations.entries_of.Goals as goal
 
 -- a table as long as the entries is filled by them
 filled : (items xs : List ℤ) → length items ≡ length xs → paste items 0 xs (length xs) ≡ xs

@@ -1,7 +1,7 @@
 use Rattle.std.proofs.Common.{◌++◌, string_bytes, sym, ap, ◌∙◌}
 use Rattle.std.proofs.lemmas.Result.{IfOk-weaker}
 use Rattle.report.specs.Translations.{kind_fact}
-use Rattle.report.proofs.translation.put_kind.Goals as goal
+use Rattle.report.proofs.translations.put_kind.Goals as goal
 
 pub returns-in-DenseContraction : goal.returns-in-DenseContraction
 returns-in-DenseContraction c =

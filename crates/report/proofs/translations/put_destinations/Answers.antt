@@ -3,7 +3,7 @@ use Rattle.std.specs.Fmt.{signed_decimal}
 use Rattle.std.proofs.lemmas.Result.{IfOk-weaker}
 use Rattle.report.specs.Facts.{separated}
 use Rattle.report.specs.Translations.{destinations_fact}
-use Rattle.report.proofs.translation.put_destinations.Goals as goal
+use Rattle.report.proofs.translations.put_destinations.Goals as goal
 
 pub returns-in_ok-put_text-in-Contiguous : goal.returns-in_ok-put_text-in-Contiguous
 returns-in_ok-put_text-in-Contiguous c =
