@@ -58,6 +58,16 @@ pub fn write_tables<C: Catalogue>(
     end
 }
 
+/// An entry of a place, as the index table has it.
+fn entry_of(place: Index, i: usize) -> i32
+    requires there { i < 4 }
+    requires low { pos 0 ≤ℤ slice_index_or place i (pos 0) }
+    requires high { slice_index_or place i (pos 0) <ℤ pos 4096 }
+    ensures { result ≡ slice_index_or place i (pos 0) }
+{
+    place[i] as i32
+}
+
 /// Appends the first `rank` entries of a place, and answers where they end.
 fn write_place(place: Index, rank: usize, indices: &mut [i32], at: usize) -> usize
     requires rank { rank ≤ 4 }
@@ -68,7 +78,7 @@ fn write_place(place: Index, rank: usize, indices: &mut [i32], at: usize) -> usi
     ensures entries { indices.new ≡ paste indices.old at place rank }
 {
     for i in 0..rank {
-        indices[at + i] = place[i] as i32;
+        indices[at + i] = entry_of(place, i);
     }
     at + rank
 }
