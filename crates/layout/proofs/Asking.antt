@@ -1,10 +1,9 @@
 -- A question about a layout that there is, or is not.
-use Rattle.std.proofs.Common.{◌≡◌, ℕ, ◌<◌, ◌≤◌, true, false, cond, ◌&&◌, ltb, List, length, get_or, Ok, Err, sym, ap, ◌∙◌}
+use Rattle.std.proofs.Common.{◌≡◌, ℕ, ◌<◌, ◌≤◌, ltb, List, length, get_or, Ok, Err, sym, ap, ◌∙◌}
 use Rattle.std.proofs.lemmas.Bool.{lt-ltb, le-ltb, cond-true, cond-false}
 use Rattle.layout.specs.declared.fault.LayoutFault.TheVariants.{Unknown}
-use Rattle.layout.specs.Places.{origin}
-use Rattle.layout.specs.Layouts.{Layout, blank, count, at}
-use Rattle.layout.specs.Answers.{asked, index_of, place_asked}
+use Rattle.layout.specs.Layouts.{Layout, blank}
+use Rattle.layout.specs.Answers.{asked}
 
 module _ (ls : List Layout) (n : ℕ) where
   pub asked_there : {A : Type 0} (f : Layout → A) (l : Layout) → n < length ls → get_or ls n blank ≡ l → Ok (f l) ≡ asked f ls n
@@ -12,9 +11,3 @@ module _ (ls : List Layout) (n : ℕ) where
 
   pub asked_not : {A : Type 0} (f : Layout → A) → length ls ≤ n → Err Unknown ≡ asked f ls n
   asked_not f h = sym (cond-false (ltb n (length ls)) (Ok (f (get_or ls n blank))) (Err Unknown) (le-ltb n (length ls) h))
-
-  pub place_there : (k : ℕ) (l : Layout) → n < length ls → get_or ls n blank ≡ l → cond (ltb k (count l)) (index_of (at l k), true) (index_of origin, false) ≡ place_asked ls n k
-  place_there k l h e = ap (λ y. cond (ltb k (count y)) (index_of (at y k), true) (index_of origin, false)) (sym e) ∙ ap (λ b. cond (b && ltb k (count (get_or ls n blank))) (index_of (at (get_or ls n blank) k), true) (index_of origin, false)) (sym (lt-ltb n (length ls) h))
-
-  pub place_not : (k : ℕ) → length ls ≤ n → (index_of origin, false) ≡ place_asked ls n k
-  place_not k h = ap (λ b. cond (b && ltb k (count (get_or ls n blank))) (index_of (at (get_or ls n blank) k), true) (index_of origin, false)) (sym (le-ltb n (length ls) h))

@@ -3,4 +3,5 @@ pub mod Radix
 pub mod Asking
 pub mod Rules
 pub mod Order
+pub mod Ranges
 pub mod Sameness

@@ -1,12 +1,11 @@
 -- Two valid layouts that answer alike are the same.
-use Rattle.std.proofs.Common.{◌≡◌, ℕ, zero, suc, ◌<◌, Bool, true, false, cond, ◌&&◌, ltb, List, length, get_or, ℤ, Ok, Err, Decides, sym, ap, ◌∙◌, arith}
+use Rattle.std.proofs.Common.{◌≡◌, ℕ, zero, suc, ◌<◌, Bool, ltb, List, length, get_or, ℤ, Some, None, Decides, sym, ap, ◌∙◌, arith}
 use Rattle.std.proofs.lemmas.List.{same_lists, get_or_default}
-use Rattle.std.proofs.lemmas.Bool.{lt-ltb, false≢true}
-use Rattle.layout.specs.declared.fault.LayoutFault.TheVariants.{Unknown}
+use Rattle.std.proofs.lemmas.Bool.{cond-true, lt-ltb}
 use Rattle.layout.specs.declared.shape.Shape.{Shape}
 use Rattle.layout.specs.Places.{Place, place, origin, axis}
-use Rattle.layout.specs.Layouts.{Layout, Valid, AllValid, blank, count, at}
-use Rattle.layout.specs.Answers.{shape_of, shape_asked, index_of, place_asked}
+use Rattle.layout.specs.Layouts.{Layout, Valid, count, at}
+use Rattle.layout.specs.Answers.{shape_of, index_of, place_in}
 
 same_index : (p q : Place) → index_of p ≡ index_of q → p ≡ q
 same_index p q e =
@@ -34,30 +33,18 @@ same_layout l m v e f =
     let w : ◌≡◌ {A = Layout} (record { kind = l.kind; shape = l.shape; places = l.places }) (record { kind = m.kind; shape = m.shape; places = m.places }) = cc in
     w
 
--- what the questions answer of a layout that there is
-shape_was : (b : Bool) (l : Layout) (s : Shape) → Ok s ≡ cond b (Ok (shape_of l)) (Err Unknown) → s ≡ shape_of l
-shape_was true l s e = cc
-shape_was false l s e = absurd (let z : ◌≡◌ {A = ℕ} 0 1 = cc in omega arith)
+-- a place that there is
+pub place_there : (l : Layout) (k : ℕ) → k < count l → place_in l k ≡ Some (index_of (at l k))
+place_there l k h = cond-true (ltb k (count l)) _ None (lt-ltb k (count l) h)
 
-shape_is : (ls : List Layout) (n : ℕ) (s : Shape) → Ok s ≡ shape_asked ls n → s ≡ shape_of (get_or ls n blank)
-shape_is ls n s e = shape_was (ltb n (length ls)) (get_or ls n blank) s e
+some_index : (x y : List ℤ) → Some x ≡ Some y → x ≡ y
+some_index x y e = cc
 
-abbrev first : List ℤ × Bool → List ℤ
-first p = p.0
+module _ (l m : Layout) (valid : Valid l) where
+  same_parts : shape_of l ≡ shape_of m → ((k : ℕ) → k < count l → place_in l k ≡ place_in m k) → l ≡ m
+  same_parts e f =
+      let counts : count l ≡ count m = ap (λ (s : Shape). s.count) e in
+      same_layout l m valid e (λ k h. some_index _ _ (sym (place_there l k h) ∙ f k h ∙ place_there m k (omega arith)))
 
-pub place_is : (ls : List Layout) (n k : ℕ) → n < length ls → k < count (get_or ls n blank) → (place_asked ls n k).0 ≡ index_of (at (get_or ls n blank) k)
-place_is ls n k h l = ap (λ b. first (cond b (index_of (at (get_or ls n blank) k), true) (index_of origin, false))) (ap (λ b. b && ltb k (count (get_or ls n blank))) (lt-ltb n (length ls) h) ∙ lt-ltb k (count (get_or ls n blank)) l)
-
-module _ (ls : List Layout) (valid : AllValid ls) (a b : ℕ) (ha : a < length ls) (hb : b < length ls) (s t : Shape) (es : Ok s ≡ shape_asked ls a) (et : Ok t ≡ shape_asked ls b) where
-  pub shapes_differ : Decides false (s ≡ t) → Decides false (get_or ls a blank ≡ get_or ls b blank)
-  shapes_differ d = (λ e. absurd (false≢true e), λ e. d.1 (shape_is ls a s es ∙ ap shape_of e ∙ sym (shape_is ls b t et)))
-
-  pub places_decide : (r : Bool) → s ≡ t → Decides r ((k : ℕ) → k < s.count → (place_asked ls a k).0 ≡ (place_asked ls b k).0) → Decides r (get_or ls a blank ≡ get_or ls b blank)
-  places_decide r e d =
-      let sa = shape_is ls a s es in
-      let sb = shape_is ls b t et in
-      let na : s.count ≡ count (get_or ls a blank) = ap (λ (x : Shape). x.count) sa in
-      let nb : s.count ≡ count (get_or ls b blank) = ap (λ (x : Shape). x.count) (e ∙ sb) in (
-        (λ h. same_layout (get_or ls a blank) (get_or ls b blank) (valid a ha) (sym sa ∙ e ∙ sb) (λ k l. sym (place_is ls a k ha l) ∙ d.0 h k (omega arith) ∙ place_is ls b k hb (omega arith))),
-        λ h. d.1 (λ k l. place_is ls a k ha (omega arith) ∙ ap (λ m. index_of (at m k)) h ∙ sym (place_is ls b k hb (omega arith))),
-      )
+  pub places_decide : (r : Bool) → shape_of l ≡ shape_of m → Decides r ((k : ℕ) → k < count l → place_in l k ≡ place_in m k) → Decides r (l ≡ m)
+  places_decide r e d = (λ h. same_parts e (d.0 h), λ h. d.1 (λ k j. ap (λ x. place_in x k) h))

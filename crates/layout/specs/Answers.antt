@@ -1,9 +1,9 @@
 -- What a catalogue that means a list of layouts answers.
-use Rattle.std.specs.Prelude.{◌≡◌, ℕ, ◌<◌, Bool, true, false, cond, ◌&&◌, List, [], ◌∷◌, length, ℤ, pos, Ok, Err, Decides, Option, Result, MatchResult, nat_lt, slice_index_or}
+use Rattle.std.specs.Prelude.{◌≡◌, ℕ, ◌<◌, Bool, cond, List, [], ◌∷◌, length, ℤ, pos, Some, None, Ok, Err, Decides, Option, Result, MatchResult, nat_lt, slice_index_or}
 use Rattle.layout.specs.declared.shape.Shape.{Shape}
 use Rattle.layout.specs.declared.fault.LayoutFault.{LayoutFault}
 use Rattle.layout.specs.declared.fault.LayoutFault.TheVariants.{Unknown}
-use Rattle.layout.specs.Places.{Place, origin, axis}
+use Rattle.layout.specs.Places.{Place, axis}
 use Rattle.layout.specs.Layouts.{Layout, blank, count, rank, at, strict, wide}
 
 -- f of layout n, or the refusal where there is no such layout
@@ -20,12 +20,13 @@ shape_asked = asked shape_of
 abbrev pub index_of : Place → List ℤ
 index_of p = pos p.a ∷ pos p.b ∷ pos p.c ∷ pos p.d ∷ []
 
--- is there a place with the number k in layout n
-abbrev pub exists : List Layout → ℕ → ℕ → Bool
-exists ls n k = nat_lt n (length ls) && nat_lt k (count (slice_index_or ls n blank))
+-- the place with the number k, as an index
+abbrev pub place_in : Layout → ℕ → Option (List ℤ)
+place_in l k = cond (nat_lt k (count l)) (Some (index_of (at l k))) None
 
-abbrev pub place_asked : List Layout → ℕ → ℕ → List ℤ × Bool
-place_asked ls n k = cond (exists ls n k) (index_of (at (slice_index_or ls n blank) k), true) (index_of origin, false)
+-- that of layout n; none where layout or place does not exist
+abbrev pub place_asked : List Layout → ℕ → ℕ → Option (List ℤ)
+place_asked ls n k = cond (nat_lt n (length ls)) (place_in (slice_index_or ls n blank) k) None
 
 abbrev pub number_asked : List Layout → ℕ → List ℤ → Result (Option ℕ) LayoutFault
 number_asked ls n x = asked (λ l. strict l x) ls n

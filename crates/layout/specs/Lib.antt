@@ -4,3 +4,4 @@ pub mod Layouts
 pub mod Answers
 pub mod Radix
 pub mod Rules
+pub mod Words

@@ -12,20 +12,22 @@ pub trait Catalogue {
     // What the catalogue means: its layouts, by number from 0.
     ghost layouts: { Self → List Layout };
 
-    /// How many layouts there are. Each of them is valid, which a caller learns here.
+    /// How many layouts there are.
     fn count(&self) -> usize
-        ensures many { result ≡ length (layouts self.now) }
-        ensures valid { AllValid (layouts self.now) };
+        ensures { result ≡ length (layouts self.now) };
 
     /// The kind, rank, lengths and place count of a layout.
     fn shape(&self, layout: usize) -> Result<Shape, LayoutFault>
         ensures { result ≡ shape_asked (layouts self.now) layout };
 
-    /// The place with a number, beside true; zeros beside false where layout or place does not exist.
-    fn place(&self, layout: usize, number: usize) -> (Index, bool)
+    /// The place with a number; none where layout or place does not exist.
+    fn place(&self, layout: usize, number: usize) -> Option<Index>
         ensures { result ≡ place_asked (layouts self.now) layout number };
 
     /// The number of an index, looked up strictly: it is found only inside the shape.
     fn number(&self, layout: usize, index: Index) -> Result<Option<usize>, LayoutFault>
         ensures { result ≡ number_asked (layouts self.now) layout index };
+
+    // Each layout is valid.
+    ghost valid: { (c : Self) → AllValid (layouts c) };
 }

@@ -1,6 +1,9 @@
 //! Refusals, and what a refused caller reads of them.
-ghost use Rattle.std.specs.Prelude.{◌≡◌};
+ghost use Rattle.std.specs.Prelude.{◌≡◌, Some};
 ghost use Rattle.layout.specs.Faults.{reported};
+ghost use Rattle.layout.specs.Words.{layer_word};
+
+use std::fmt;
 
 /// The layer that refuses.
 #[derive(Clone, Copy, PartialEq, Eq)]
@@ -8,6 +11,18 @@ pub enum Layer {
     Translation,
     Expression,
     Stage,
+}
+
+impl fmt::Display for Layer {
+    ghost output = { λ layer. Some (layer_word layer) };
+
+    fn fmt<W: fmt::Write>(&self, f: &mut fmt::Formatter<W>) -> fmt::Result {
+        f.write_str(match *self {
+            Layer::Translation => "translation",
+            Layer::Expression => "expression",
+            Layer::Stage => "stage",
+        })
+    }
 }
 
 /// A refusal as its reader has it.

@@ -17,11 +17,7 @@ fn entry_given(rank: usize, index: Index, i: usize) -> i64
 fn entry_below(length: usize, x: i64) -> Option<usize>
     ensures { result ≡ below length x }
 {
-    if x < 0 {
-        return None;
-    }
-    let n = x as usize;
-    if n < length { Some(n) } else { None }
+    usize::try_from(x).ok().filter(|n| *n < length)
 }
 
 fn entry_inside(rank: usize, lengths: [usize; 4], index: Index, i: usize) -> Option<usize>

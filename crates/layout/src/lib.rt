@@ -8,4 +8,5 @@ pub mod fault;
 pub mod find;
 pub mod index;
 pub mod kind;
+pub mod layout_ref;
 pub mod shape;

@@ -2,7 +2,7 @@
 use crate::kind::LayoutKind;
 
 /// One layout without its places. A length from the rank on is 1.
-#[derive(Clone, Copy)]
+#[derive(Clone, Copy, PartialEq, Eq)]
 pub struct Shape {
     pub kind: LayoutKind,
     pub rank: usize,

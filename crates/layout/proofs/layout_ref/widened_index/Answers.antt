@@ -2,7 +2,7 @@ use Rattle.std.proofs.Common.{◌≡◌, ℕ, ◌<◌, List, length, get_or, ℤ
 use Rattle.std.proofs.lemmas.List.{get_or_default}
 use Rattle.std.proofs.lemmas.Int.{to_z-of_z}
 use Rattle.layout.specs.Layouts.{widened}
-use Rattle.layout.proofs.find.widened_index.Goals as goal
+use Rattle.layout.proofs.layout_ref.widened_index.Goals as goal
 
 one : (ns : List ℕ) (xs : List ℤ) (i : ℕ) (r : ℤ) → length ns ≡ 4 → i < 4 → SFits w64 (get_or xs i (pos 0)) → SFits w64 r → r ≡ widened (get_or ns i 0) (to_z w64 (of_z w64 (get_or xs i (pos 0)))) → to_z w64 (of_z w64 r) ≡ widened (get_or ns i 1) (get_or xs i (pos 0))
 one ns xs i r n h f g e =
