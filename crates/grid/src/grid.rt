@@ -54,11 +54,11 @@ impl Catalogue for Grid {
         }
     }
 
-    fn place(&self, layout: usize, number: usize) -> (Index, bool) {
+    fn place(&self, layout: usize, number: usize) -> Option<Index> {
         if layout < self.count {
             place_answer(self.shapes[layout], number)
         } else {
-            ([0, 0, 0, 0], false)
+            None
         }
     }
 

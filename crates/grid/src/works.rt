@@ -3,7 +3,7 @@ ghost use Rattle.std.specs.Prelude.{◌≡◌, ℕ, ◌<◌, ◌≤◌, true, fa
 ghost use Rattle.layout.specs.Places.{axis, origin, place};
 ghost use Rattle.layout.specs.Layouts.{at, strict};
 ghost use Rattle.layout.specs.Layouts.{count as places_count, Level};
-ghost use Rattle.layout.specs.Answers.{shape_of, index_of};
+ghost use Rattle.layout.specs.Answers.{shape_of, index_of, place_in};
 ghost use Rattle.layout.specs.Radix.{size, ravel, unravel, along};
 ghost use Rattle.layout.specs.Rules.{in_range as in_range_rule, axes_in_range as axes_in_range_rule, equal_axes, first_broken};
 ghost use Rattle.layout.specs.declared.kind.LayoutKind.TheVariants.{Dense, Diagonal};
@@ -181,14 +181,14 @@ fn place_of(g: GridShape, number: usize) -> Index
     }
 }
 
-pub fn place_answer(g: GridShape, number: usize) -> (Index, bool)
+pub fn place_answer(g: GridShape, number: usize) -> Option<Index>
     requires { sound g ≡ true }
-    ensures { result ≡ (if nat_lt number (places_count (grid_layout g)) then (index_of (at (grid_layout g) number), true) else (index_of origin, false)) }
+    ensures { result ≡ place_in (grid_layout g) number }
 {
     if number < count_of(g) {
-        (place_of(g, number), true)
+        Some(place_of(g, number))
     } else {
-        ([0, 0, 0, 0], false)
+        None
     }
 }
 

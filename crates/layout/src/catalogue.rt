@@ -12,9 +12,10 @@ pub trait Catalogue {
     // What the catalogue means: its layouts, by number from 0.
     ghost layouts: { Self → List Layout };
 
-    /// How many layouts there are.
+    /// How many layouts there are. Each of them is valid, which a caller learns here.
     fn count(&self) -> usize
-        ensures { result ≡ length (layouts self.now) };
+        ensures many { result ≡ length (layouts self.now) }
+        ensures valid { AllValid (layouts self.now) };
 
     /// The kind, rank, lengths and place count of a layout.
     fn shape(&self, layout: usize) -> Result<Shape, LayoutFault>
@@ -27,7 +28,4 @@ pub trait Catalogue {
     /// The number of an index, looked up strictly: it is found only inside the shape.
     fn number(&self, layout: usize, index: Index) -> Result<Option<usize>, LayoutFault>
         ensures { result ≡ number_asked (layouts self.now) layout index };
-
-    // Each layout is valid.
-    ghost valid: { (c : Self) → AllValid (layouts c) };
 }

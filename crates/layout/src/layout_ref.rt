@@ -48,6 +48,8 @@ impl<'a, C: Catalogue> LayoutRef<'a, C> {
     pub fn new(catalogue: &'a C, number: usize) -> Result<LayoutRef<'a, C>, LayoutFault>
         ensures { result ≡ asked (λ l. l) (C.layouts catalogue.now) number }
     {
+        // The count says that every layout is valid.
+        let _ = catalogue.count();
         let shape = catalogue.shape(number)?;
         Ok(LayoutRef {
             catalogue,
