@@ -24,6 +24,7 @@ numbered n (x ∷ xs) s = cond (bytes_eq s x) (Ok n) (numbered (n + 1) xs s)
 abbrev pub code_of : List ℕ → Result ℕ ExpressionFault
 code_of s = numbered 1 functions s
 
+-- the code of each function
 abbrev pub function_code : Function → ℕ
 function_code Sin = 1
 function_code Cos = 2
