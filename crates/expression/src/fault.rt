@@ -31,10 +31,6 @@ impl ExpressionFault {
             ExpressionFault::NoHostValue { node } => (11, node),
             ExpressionFault::NotReady { node } => (21, node),
         };
-        Report {
-            number,
-            layer: Layer::Expression,
-            place,
-        }
+        Report::new(number, Layer::Expression, place)
     }
 }

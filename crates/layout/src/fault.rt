@@ -33,6 +33,19 @@ pub struct Report {
     pub place: usize,
 }
 
+impl Report {
+    /// The refusal with a number, of a layer, at a place.
+    pub fn new(number: u8, layer: Layer, place: usize) -> Report
+        ensures { result ≡ record { number = number; layer = layer; place = place } }
+    {
+        Report {
+            number,
+            layer,
+            place,
+        }
+    }
+}
+
 /// A rule that a layout record can break. Where it breaks several, the first of this list is told.
 #[derive(Clone, Copy, PartialEq, Eq)]
 pub enum Rule {
@@ -72,12 +85,8 @@ impl LayoutFault {
     {
         let place = match *self {
             LayoutFault::Unknown => 0,
-            LayoutFault::Faulty { record, rule: _ } => record,
+            LayoutFault::Faulty { record, .. } => record,
         };
-        Report {
-            number: 1,
-            layer: Layer::Stage,
-            place,
-        }
+        Report::new(1, Layer::Stage, place)
     }
 }

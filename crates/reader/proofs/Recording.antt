@@ -20,6 +20,7 @@ use Rattle.translation.specs.declared.kinds.TranslationFault.TheVariants.{Short}
 use Rattle.translation.specs.Laws.{Lawful, LawfulIn, Divided, taken}
 use Rattle.translation.specs.Outcome.{translated}
 use Rattle.translation.proofs.Accepting.{known_in}
+use Rattle.translation.specs.Routes.{Leads}
 use Rattle.translation.proofs.Meeting.{appends}
 use Rattle.translation.proofs.Entering.{destinations_long, to_long}
 use Rattle.reader.specs.declared.record.BlockRecord.{BlockRecord}
@@ -212,7 +213,8 @@ module _ (ls : List Layout) (source via target : ℕ) (x : List ℤ) (table : Li
       let room = leb-true _ _ h in
       let n = law.long in
       let f : leb (p + length (entries_of ls t source via x target)) (length table) ≡ true = le-leb _ _ (omega arith) in
-      let ok = a ∙ sym (appends ls t source via target x (length table) p true k.0 k.1 k.2 f) in
+      let leads : Leads ls (record { source = source; via = via; start = x; target = target }) S V x G = record { known = (k.0, k.1, k.2); source = refl; via = refl; start = refl; target = refl } in
+      let ok = a ∙ sym (appends ls _ S V x G leads t (length table) p _ true refl (sym f)) in
       w ∙ ap (λ y. appended y table p (entries_of ls t source via x target)) ok ∙ ap (λ y. table_by y (Ok b) ls source via x target table p) e
 
   pub follows_in : (b : BlockRecord) (new : List ℤ) → AllValid ls → LawfulIn ls source via x target t → leb (p + data_count t) (min (length table) 4194304) ≡ true → b ≡ record_of t S V G p → new ≡ table_after (Ok b) ls source via x target table p → Follows S V x G b new

@@ -32,11 +32,7 @@ impl ReaderFault {
         ensures { result ≡ reported self }
     {
         match self {
-            ReaderFault::Short => Report {
-                number: 23,
-                layer: Layer::Stage,
-                place: 0,
-            },
+            ReaderFault::Short => Report::new(23, Layer::Stage, 0),
         }
     }
 }

@@ -14,29 +14,19 @@ impl From<LayoutFault> for TranslationFault {
     }
 }
 
-fn told(number: u8, layer: Layer, place: usize) -> Report
-    ensures { (result.number ≡ number) × (result.layer ≡ layer) × (result.place ≡ place) }
-{
-    Report {
-        number,
-        layer,
-        place,
-    }
-}
-
 impl TranslationFault {
     /// The number, layer and place of the refusal.
     pub fn report(self) -> Report
         ensures { result ≡ reported self }
     {
         match self {
-            TranslationFault::Unknown => told(1, Layer::Stage, 0),
-            TranslationFault::Start => told(3, Layer::Translation, 0),
-            TranslationFault::NoTranslation => told(4, Layer::Translation, 0),
-            TranslationFault::Elements => told(5, Layer::Translation, 0),
-            TranslationFault::Uncovered => told(6, Layer::Translation, 0),
-            TranslationFault::NoDestination { place } => told(7, Layer::Translation, place),
-            TranslationFault::Short => told(23, Layer::Stage, 0),
+            TranslationFault::Unknown => Report::new(1, Layer::Stage, 0),
+            TranslationFault::Start => Report::new(3, Layer::Translation, 0),
+            TranslationFault::NoTranslation => Report::new(4, Layer::Translation, 0),
+            TranslationFault::Elements => Report::new(5, Layer::Translation, 0),
+            TranslationFault::Uncovered => Report::new(6, Layer::Translation, 0),
+            TranslationFault::NoDestination { place } => Report::new(7, Layer::Translation, place),
+            TranslationFault::Short => Report::new(23, Layer::Stage, 0),
         }
     }
 }
