@@ -1,9 +1,11 @@
 -- What the functions of `works` answer is what the layout means.
-use Rattle.std.proofs.Common.{◌≡◌, ℕ, zero, suc, ◌<◌, ◌≤◌, true, List, [], ◌∷◌, length, get_or, ℤ, Some, None, Option, sym, refl, ap, ◌∙◌, subst, arith}
+use Rattle.std.proofs.Common.{◌≡◌, ℕ, zero, suc, ◌<◌, ◌≤◌, Bool, true, false, List, [], ◌∷◌, length, get_or, ℤ, Some, None, Option, Decides, sym, refl, ap, ◌∙◌, subst, arith}
 use Rattle.std.proofs.lemmas.List.{length-take}
 use Rattle.std.proofs.ByRecursion.{All-get_or}
 use Rattle.std.proofs.lemmas.List.FromFn.{length-map-range_with_len, get_or-map-range_with_len}
+use Rattle.std.specs.Bool.{then_some}
 use Rattle.std.specs.Option.{option_map}
+use Rattle.std.proofs.lemmas.Bool.Decides.{not_from_Decides}
 use Rattle.layout.specs.declared.kind.LayoutKind.TheVariants.{Dense, Diagonal}
 use Rattle.layout.specs.Places.{Place, place, origin, entries, Inside, axis}
 use Rattle.layout.specs.Layouts.{Level, OfKind, count, rank, at, inside, strict}
@@ -99,7 +101,7 @@ module _ (g : GridShape) (ok : sound g ≡ true) (four : length g.lengths ≡ 4)
   abbrev entries_place : List ℕ → Place
   entries_place e = place (get_or e 0 0) (get_or e 1 0) (get_or e 2 0) (get_or e 3 0)
 
-  pub number_on : (e : List ℕ) → g.kind ≡ Diagonal → Some e ≡ option_map entries (inside g.rank n x) → Level g.rank (entries_place e) → Some (get_or e 0 0) ≡ strict (grid_layout g) x
+  number_on : (e : List ℕ) → g.kind ≡ Diagonal → Some e ≡ option_map entries (inside g.rank n x) → Level g.rank (entries_place e) → Some (get_or e 0 0) ≡ strict (grid_layout g) x
   number_on e d h v =
       let q = got e h in
       let s = grid_shape g in
@@ -109,7 +111,7 @@ module _ (g : GridShape) (ok : sound g ≡ true) (four : length g.lengths ≡ 4)
       let f = strict_inside (grid_layout g) x q.0 q.0.a (grid_valid g ok) q.3 (rw (count_diagonal g d) q.2.0) (at_diagonal g q.0.a d q.2.0 ∙ m) in
       ap (λ t. Some (get_or t 0 0)) q.1 ∙ sym f
 
-  pub number_off : (e : List ℕ) → g.kind ≡ Diagonal → Some e ≡ option_map entries (inside g.rank n x) → (Level g.rank (entries_place e) → ⊥) → None ≡ strict (grid_layout g) x
+  number_off : (e : List ℕ) → g.kind ≡ Diagonal → Some e ≡ option_map entries (inside g.rank n x) → (Level g.rank (entries_place e) → ⊥) → None ≡ strict (grid_layout g) x
   number_off e d h v =
       let q = got e h in
       let l = grid_layout g in
@@ -120,6 +122,10 @@ module _ (g : GridShape) (ok : sound g ≡ true) (four : length g.lengths ≡ 4)
       let lv : Level (rank l) q.0 = rw (a ∙ sym pq) at (All-get_or (Level (rank l)) l.places k origin k< levels) in
       let lw : Level g.rank q.0 = subst (λ r. Level r q.0) (rank_is g ok four) lv in
       v (subst (λ t. Level g.rank (entries_place t)) (sym q.1) lw)))
+
+  pub number_diagonal : (b : Bool) (e : List ℕ) → g.kind ≡ Diagonal → Some e ≡ option_map entries (inside g.rank n x) → Decides b (Level g.rank (entries_place e)) → then_some b (get_or e 0 0) ≡ strict (grid_layout g) x
+  number_diagonal true e d h t = number_on e d h (t.0 refl)
+  number_diagonal false e d h t = number_off e d h (not_from_Decides false t refl)
 
   -- the entries are small
   pub got_small : (e : List ℕ) → Some e ≡ option_map entries (inside g.rank n x) → (i : ℕ) → get_or e i 0 < 4096

@@ -1,6 +1,6 @@
 use Rattle.std.proofs.Common.{◌≡◌, length, arith, rules}
 use Rattle.std.proofs.lemmas.List.{get_or_default}
-use Rattle.grid.proofs.works.axes_in_range.Goals as goal
+use Rattle.grid.proofs.rules.axes_equal.Goals as goal
 
 pub returns : goal.returns
 returns c =

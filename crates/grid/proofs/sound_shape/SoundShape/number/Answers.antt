@@ -1,0 +1,26 @@
+use Rattle.std.proofs.Common.{◌≡◌, length, Some, ap, ◌∙◌, rules}
+use Rattle.grid.proofs.Answering.{number_none, number_dense, number_diagonal, got_small, fours_most}
+use Rattle.grid.proofs.sound_shape.SoundShape.number.Goals as goal
+
+pub ravelled-requires : goal.ravelled-requires
+ravelled-requires c =
+    let n : length c.args.self.now.shape.lengths ≡ 4 = search rules in
+    record {
+      lengths = fours_most c.args.self.now.shape c.args.self.now.sound c.padded-n.result c.padded-n.ensures;
+      entries = got_small c.args.self.now.shape c.args.self.now.sound n c.padded-n.result c.padded-n.ensures c.args.index c.in_ok-e.e c.in_ok-e.ensures;
+    }
+
+pub returns-in_err-e : goal.returns-in_err-e
+returns-in_err-e c =
+    let n : length c.args.self.now.shape.lengths ≡ 4 = search rules in
+    c.from_residual.ensures ∙ number_none c.args.self.now.shape c.args.self.now.sound n c.padded-n.result c.padded-n.ensures c.args.index c.in_err-e.ensures
+
+pub returns-in-Dense : goal.returns-in-Dense
+returns-in-Dense c =
+    let n : length c.args.self.now.shape.lengths ≡ 4 = search rules in
+    ap Some c.ravelled.ensures ∙ number_dense c.args.self.now.shape c.args.self.now.sound n c.padded-n.result c.padded-n.ensures c.args.index c.in_ok-e.e c.in-Dense.is c.in_ok-e.ensures
+
+pub returns-in-Diagonal : goal.returns-in-Diagonal
+returns-in-Diagonal c =
+    let n : length c.args.self.now.shape.lengths ≡ 4 = search rules in
+    c.then_some.ensures ∙ number_diagonal c.args.self.now.shape c.args.self.now.sound n c.padded-n.result c.padded-n.ensures c.args.index c.entries_level.result c.in_ok-e.e c.in-Diagonal.is c.in_ok-e.ensures c.entries_level.ensures
