@@ -56,25 +56,6 @@ small p a b c d (suc (suc zero)) = c
 small p a b c d (suc (suc (suc zero))) = d
 small p a b c d (suc (suc (suc (suc i)))) = omega arith
 
--- the lengths as the code has them are in range
-pub fours_most : (g : GridShape) → sound g ≡ true → (n : List ℕ) → n ≡ fours (grid_shape g) → (i : ℕ) → get_or n i 0 ≤ 4096
-fours_most g ok n is i = subst (λ t. get_or t i 0 ≤ 4096) (sym is) (by i) where
-  by : (i : ℕ) → get_or (fours (grid_shape g)) i 0 ≤ 4096
-  by zero = (axes_sound g ok 0 (omega arith)).1
-  by (suc zero) = (axes_sound g ok 1 (omega arith)).1
-  by (suc (suc zero)) = (axes_sound g ok 2 (omega arith)).1
-  by (suc (suc (suc zero))) = (axes_sound g ok 3 (omega arith)).1
-  by (suc (suc (suc (suc i)))) = omega arith
-
-pub fours_least : (g : GridShape) → sound g ≡ true → (n : List ℕ) → n ≡ fours (grid_shape g) → (i : ℕ) → i < 4 → 1 ≤ get_or n i 0
-fours_least g ok n is i l = subst (λ t. 1 ≤ get_or t i 0) (sym is) (by i l) where
-  by : (i : ℕ) → i < 4 → 1 ≤ get_or (fours (grid_shape g)) i 0
-  by zero l = (axes_sound g ok 0 (omega arith)).0
-  by (suc zero) l = (axes_sound g ok 1 (omega arith)).0
-  by (suc (suc zero)) l = (axes_sound g ok 2 (omega arith)).0
-  by (suc (suc (suc zero))) l = (axes_sound g ok 3 (omega arith)).0
-  by (suc (suc (suc (suc i)))) l = absurd (omega arith)
-
 module _ (g : GridShape) (ok : sound g ≡ true) (four : length g.lengths ≡ 4) (n : List ℕ) (is : n ≡ fours (grid_shape g)) (x : List ℤ) where
   here : inside g.rank n x ≡ inside (rank (grid_layout g)) (grid_shape g) x
   here = ap (λ m. inside g.rank m x) is ∙ ap (λ r. inside r (grid_shape g) x) (sym (rank_is g ok four))

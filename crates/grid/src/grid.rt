@@ -57,10 +57,8 @@ impl Catalogue for Grid {
     }
 
     fn shape(&self, layout: usize) -> Result<Shape, LayoutFault> {
-        match self.shapes.get(layout) {
-            Some(shape) => Ok(shape.shape()),
-            None => Err(LayoutFault::Unknown),
-        }
+        let shape = self.shapes.get(layout).ok_or(LayoutFault::Unknown)?;
+        Ok(shape.shape())
     }
 
     fn place(&self, layout: usize, number: usize) -> Option<Index> {
@@ -68,9 +66,7 @@ impl Catalogue for Grid {
     }
 
     fn number(&self, layout: usize, index: Index) -> Result<Option<usize>, LayoutFault> {
-        match self.shapes.get(layout) {
-            Some(shape) => Ok(shape.number(index)),
-            None => Err(LayoutFault::Unknown),
-        }
+        let shape = self.shapes.get(layout).ok_or(LayoutFault::Unknown)?;
+        Ok(shape.number(index))
     }
 }

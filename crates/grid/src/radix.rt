@@ -4,6 +4,7 @@ ghost use Rattle.layout.specs.Places.{place};
 ghost use Rattle.layout.specs.Layouts.{Level};
 ghost use Rattle.layout.specs.Answers.{index_of};
 ghost use Rattle.layout.specs.Radix.{size, ravel, unravel, along};
+ghost use Rattle.layout.specs.Rules.{equal_axes};
 
 use layout::index::Index;
 
@@ -53,9 +54,10 @@ pub(crate) fn diagonal_place(rank: usize, number: usize) -> Index
     ]
 }
 
-/// Whether the first `rank` entries are equal.
-pub(crate) fn entries_level(rank: usize, e: [usize; 4]) -> bool
-    ensures { Decides result (Level rank (place (slice_index e 0) (slice_index e 1) (slice_index e 2) (slice_index e 3))) }
+/// Whether the first `rank` numbers are equal.
+pub(crate) fn is_level(rank: usize, n: [usize; 4]) -> bool
+    ensures axes { result ≡ equal_axes rank n }
+    ensures level { Decides result (Level rank (place (slice_index n 0) (slice_index n 1) (slice_index n 2) (slice_index n 3))) }
 {
-    ((rank <= 1) | (e[1] == e[0])) & ((rank <= 2) | (e[2] == e[0])) & ((rank <= 3) | (e[3] == e[0]))
+    ((rank <= 1) | (n[1] == n[0])) & ((rank <= 2) | (n[2] == n[0])) & ((rank <= 3) | (n[3] == n[0]))
 }

@@ -1,10 +1,10 @@
 //! The check of shapes.
 ghost use Rattle.std.specs.Prelude.{◌≡◌, true, Some, MatchResult};
-ghost use Rattle.layout.specs.Rules.{in_range as in_range_rule, axes_in_range as axes_in_range_rule, equal_axes, first_broken, none};
+ghost use Rattle.layout.specs.Rules.{in_range as in_range_rule, axes_in_range as axes_in_range_rule, first_broken, none};
 ghost use Rattle.layout.specs.declared.kind.LayoutKind.TheVariants.{Dense, Diagonal};
 ghost use Rattle.grid.specs.Grids.{sound, broken, tests};
 
-use crate::radix::product;
+use crate::radix::{is_level, product};
 use crate::shapes::GridShape;
 use layout::fault::Rule;
 use layout::kind::LayoutKind;
@@ -12,7 +12,7 @@ use layout::kind::LayoutKind;
 fn in_range(n: usize) -> bool
     ensures { result ≡ in_range_rule n }
 {
-    1 <= n && n <= 4096
+    (1..=4096).contains(&n)
 }
 
 /// Whether each axis has a length of 1 to 4,096.
@@ -20,12 +20,6 @@ pub fn axes_in_range(n: [usize; 4]) -> bool
     ensures { result ≡ axes_in_range_rule n }
 {
     in_range(n[0]) & in_range(n[1]) & in_range(n[2]) & in_range(n[3])
-}
-
-fn axes_equal(rank: usize, n: [usize; 4]) -> bool
-    ensures { result ≡ equal_axes rank n }
-{
-    ((rank <= 1) | (n[1] == n[0])) & ((rank <= 2) | (n[2] == n[0])) & ((rank <= 3) | (n[3] == n[0]))
 }
 
 fn check_dense(g: GridShape) -> Result<(), Rule>
@@ -54,14 +48,14 @@ fn check_diagonal(g: GridShape) -> Result<(), Rule>
     if !axes_in_range(n) {
         return Err(Rule::Length);
     }
-    if !axes_equal(g.rank, n) {
+    if !is_level(g.rank, n) {
         return Err(Rule::Axes);
     }
     Ok(())
 }
 
 /// Refuses a shape with the first rule that it breaks.
-pub fn check_shape(g: GridShape) -> Result<(), Rule>
+pub(crate) fn check_shape(g: GridShape) -> Result<(), Rule>
     ensures { MatchResult result (λ _. sound g ≡ true) (λ rule. broken g ≡ Some rule) }
 {
     match g.kind {

@@ -5,7 +5,7 @@ ghost use Rattle.layout.specs.Layouts.{count as places_count};
 ghost use Rattle.layout.specs.Answers.{shape_of, index_of, place_in};
 ghost use Rattle.grid.specs.Grids.{grid_layout, sound, broken};
 
-use crate::radix::{diagonal_place, entries_level, product, ravelled, unravelled};
+use crate::radix::{diagonal_place, is_level, product, ravelled, unravelled};
 use crate::rules::check_shape;
 use crate::shapes::GridShape;
 use layout::fault::Rule;
@@ -26,7 +26,7 @@ impl SoundShape {
         ensures { MatchResult result (λ s. s.shape ≡ shape) (λ rule. broken shape ≡ Some rule) }
     {
         check_shape(shape)?;
-        Ok(SoundShape { shape })
+        Ok(SoundShape::known(shape))
     }
 
     /// A shape that is known to keep the rules.
@@ -91,7 +91,7 @@ impl SoundShape {
         let e = entries_inside(self.shape.rank, n, index)?;
         match self.shape.kind {
             LayoutKind::Dense => Some(ravelled(n, e)),
-            LayoutKind::Diagonal => entries_level(self.shape.rank, e).then_some(e[0]),
+            LayoutKind::Diagonal => is_level(self.shape.rank, e).then_some(e[0]),
             LayoutKind::Sparse => None,
         }
     }

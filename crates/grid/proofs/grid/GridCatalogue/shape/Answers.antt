@@ -1,14 +1,15 @@
-use Rattle.std.proofs.Common.{Ok, ap, ◌∙◌}
+use Rattle.std.proofs.Common.{◌≡◌, ◌<◌, ◌≤◌, length, Ok, ap, ◌∙◌, subst, MatchOption}
+use Rattle.std.specs.List.{HoldsAt}
 use Rattle.layout.specs.Answers.{shape_of}
 use Rattle.layout.proofs.Asking.{asked_there}
 use Rattle.grid.specs.Grids.{grid_layout, grid_layouts}
 use Rattle.grid.proofs.Kept.{there, here}
 use Rattle.grid.proofs.grid.GridCatalogue.shape.Goals as goal
 
-pub returns-in-Some : goal.returns-in-Some
-returns-in-Some c =
+pub returns : goal.returns
+returns c =
     let gs = c.args.self.now in
     let k = c.args.layout in
-    let s = c.in-Some.shape.now in
-    let f = c.in-Some.ensures.lookup.3 in
+    let s = c.in_ok-shape.shape.now in
+    let f = subst (λ o. MatchOption o (length c.deref.result.now ≤ k) (λ x. (k < length c.deref.result.now) × HoldsAt (λ y. x.now ≡ y) c.deref.result.now k)) c.in_ok-shape.ensures.ok_part c.get.ensures.lookup.3 in
     ap Ok c.shape.ensures ∙ asked_there (grid_layouts gs) k shape_of (grid_layout s.shape) (there gs c.self.inside.shapes.items c.deref.result.now c.self.view_is c.deref.ensures.0 k s f) (here gs c.self.inside.shapes.items c.deref.result.now c.self.view_is c.deref.ensures.0 k s f)

@@ -1,14 +1,11 @@
 use Rattle.std.proofs.Common.{◌≡◌, length, Some, ap, ◌∙◌, rules}
-use Rattle.grid.proofs.Answering.{number_none, number_dense, number_diagonal, got_small, fours_most}
+use Rattle.grid.proofs.Answering.{number_none, number_dense, number_diagonal, got_small}
 use Rattle.grid.proofs.sound_shape.SoundShape.number.Goals as goal
 
-pub ravelled-requires : goal.ravelled-requires
-ravelled-requires c =
+pub ravelled-requires-clause-entries : goal.ravelled-requires-clause-entries
+ravelled-requires-clause-entries c =
     let n : length c.args.self.now.shape.lengths ≡ 4 = search rules in
-    record {
-      lengths = fours_most c.args.self.now.shape c.args.self.now.sound c.padded-n.result c.padded-n.ensures;
-      entries = got_small c.args.self.now.shape c.args.self.now.sound n c.padded-n.result c.padded-n.ensures c.args.index c.in_ok-e.e c.in_ok-e.ensures;
-    }
+    got_small c.args.self.now.shape c.args.self.now.sound n c.padded-n.result c.padded-n.ensures c.args.index c.in_ok-e.e c.in_ok-e.ensures
 
 pub returns-in_err-e : goal.returns-in_err-e
 returns-in_err-e c =
@@ -23,4 +20,4 @@ returns-in-Dense c =
 pub returns-in-Diagonal : goal.returns-in-Diagonal
 returns-in-Diagonal c =
     let n : length c.args.self.now.shape.lengths ≡ 4 = search rules in
-    c.then_some.ensures ∙ number_diagonal c.args.self.now.shape c.args.self.now.sound n c.padded-n.result c.padded-n.ensures c.args.index c.entries_level.result c.in_ok-e.e c.in-Diagonal.is c.in_ok-e.ensures c.entries_level.ensures
+    c.then_some.ensures ∙ number_diagonal c.args.self.now.shape c.args.self.now.sound n c.padded-n.result c.padded-n.ensures c.args.index c.is_level.result c.in_ok-e.e c.in-Diagonal.is c.in_ok-e.ensures c.is_level.ensures.level

@@ -4,15 +4,11 @@ use Rattle.layout.specs.Answers.{index_of}
 use Rattle.layout.specs.Radix.{size, unravel, along}
 use Rattle.grid.specs.Grids.{grid_shape}
 use Rattle.grid.proofs.Validity.{grid_valid}
-use Rattle.grid.proofs.Answering.{count_dense, count_diagonal, at_dense, at_diagonal, fours_least, rank_is}
+use Rattle.grid.proofs.Answering.{count_dense, count_diagonal, at_dense, at_diagonal, rank_is}
 use Rattle.grid.proofs.sound_shape.SoundShape.place_of.Goals as goal
 
-pub unravelled-requires : goal.unravelled-requires
-unravelled-requires c =
-    record {
-      lengths = fours_least c.args.self.now.shape c.args.self.now.sound c.padded.result c.padded.ensures;
-      small = omega (arith, c.requires, (grid_valid c.args.self.now.shape c.args.self.now.sound).many);
-    }
+pub unravelled-requires-clause-small : goal.unravelled-requires-clause-small
+unravelled-requires-clause-small c = omega (arith, c.requires, (grid_valid c.args.self.now.shape c.args.self.now.sound).many)
 
 pub diagonal_place-requires : goal.diagonal_place-requires
 diagonal_place-requires c = omega (arith, c.requires, (grid_valid c.args.self.now.shape c.args.self.now.sound).many)
