@@ -1,11 +1,9 @@
 -- What the functions of `works` answer is what the layout means.
-use Rattle.std.proofs.Common.{◌≡◌, ℕ, zero, suc, ◌<◌, ◌≤◌, Bool, true, false, List, [], ◌∷◌, length, get_or, ℤ, Some, None, Option, Decides, sym, refl, ap, ◌∙◌, subst, arith}
+use Rattle.std.proofs.Common.{◌≡◌, ℕ, zero, suc, ◌<◌, ◌≤◌, true, List, [], ◌∷◌, length, get_or, ℤ, Some, None, Option, MatchOption, sym, refl, ap, ◌∙◌, subst, arith}
 use Rattle.std.proofs.lemmas.List.{length-take}
 use Rattle.std.proofs.ByRecursion.{All-get_or}
 use Rattle.std.proofs.lemmas.List.FromFn.{length-map-range_with_len, get_or-map-range_with_len}
-use Rattle.std.specs.Bool.{then_some}
 use Rattle.std.specs.Option.{option_map}
-use Rattle.std.proofs.lemmas.Bool.Decides.{not_from_Decides}
 use Rattle.layout.specs.declared.kind.LayoutKind.TheVariants.{Dense, Diagonal}
 use Rattle.layout.specs.Places.{Place, place, origin, entries, Inside, axis}
 use Rattle.layout.specs.Layouts.{Level, OfKind, count, rank, at, inside, strict}
@@ -104,9 +102,9 @@ module _ (g : GridShape) (ok : sound g ≡ true) (four : length g.lengths ≡ 4)
       let lw : Level g.rank q.0 = subst (λ r. Level r q.0) (rank_is g ok four) lv in
       v (subst (λ t. Level g.rank (entries_place t)) (sym q.1) lw)))
 
-  pub number_diagonal : (b : Bool) (e : List ℕ) → g.kind ≡ Diagonal → Some e ≡ option_map entries (inside g.rank n x) → Decides b (Level g.rank (entries_place e)) → then_some b (get_or e 0 0) ≡ strict (grid_layout g) x
-  number_diagonal true e d h t = number_on e d h (t.0 refl)
-  number_diagonal false e d h t = number_off e d h (not_from_Decides false t refl)
+  pub number_diagonal : (o : Option ℕ) (e : List ℕ) → g.kind ≡ Diagonal → Some e ≡ option_map entries (inside g.rank n x) → MatchOption o (Level g.rank (entries_place e) → ⊥) (λ k. Level g.rank (entries_place e) × (k ≡ get_or e 0 0)) → o ≡ strict (grid_layout g) x
+  number_diagonal (Some k) e d h t = ap Some t.1 ∙ number_on e d h t.0
+  number_diagonal None e d h t = number_off e d h t
 
   -- the entries are small
   pub got_small : (e : List ℕ) → Some e ≡ option_map entries (inside g.rank n x) → (i : ℕ) → get_or e i 0 < 4096

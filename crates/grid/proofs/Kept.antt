@@ -1,10 +1,10 @@
 -- The layouts of the shapes that are kept.
-use Rattle.std.proofs.Common.{◌≡◌, ℕ, ◌<◌, ◌≤◌, true, List, length, get_or, take, refl, sym, ap, ◌∙◌, subst, arith}
-use Rattle.std.proofs.lemmas.List.{length-map, length-take-le, get_or-map, get_or-take}
+use Rattle.std.proofs.Common.{◌≡◌, ℕ, ◌<◌, List, length, get_or, refl, sym, ap, ◌∙◌, subst}
+use Rattle.std.proofs.lemmas.List.{length-map, get_or-map}
 use Rattle.layout.specs.Layouts.{Valid, blank}
 use Rattle.grid.specs.declared.shapes.GridShape.{GridShape}
 use Rattle.grid.specs.declared.sound_shape.SoundShape.{SoundShape}
-use Rattle.grid.specs.Grids.{grid_layout, grid_layouts, no_shape, sound}
+use Rattle.grid.specs.Grids.{grid_layout, grid_layouts, no_shape}
 use Rattle.grid.specs.Shapes.{shapes_of}
 use Rattle.grid.proofs.Validity.{grid_valid}
 
@@ -32,11 +32,3 @@ module _ (gs : List GridShape) (ss xs : List SoundShape) (v : shapes_of ss ≡ g
 
   pub here : get_or (grid_layouts gs) k blank ≡ grid_layout s.shape
   here = subst (λ x. get_or (grid_layouts x) k blank ≡ grid_layout s.shape) v (kept_at ss k s in_row ∙ ap (λ (t : SoundShape). grid_layout t.shape) (sym (subst (λ x. s ≡ get_or x k s) e (f.1 s))))
-
--- the shapes that were kept so far are sound
-pub sound_before : (gs : List GridShape) (ss : List SoundShape) (n j : ℕ) → shapes_of ss ≡ take n gs → n ≤ length gs → j < n → sound (get_or gs j no_shape) ≡ true
-sound_before gs ss n j e h l =
-    let m : length ss ≡ n = sym (simp length-map) ∙ ap length e ∙ length-take-le n gs h in
-    let a = get_or-map (λ (s : SoundShape). s.shape) ss j no_sound_shape no_shape (omega arith) in
-    let b : (get_or ss j no_sound_shape).shape ≡ get_or gs j no_shape = sym a ∙ ap (λ x. get_or x j no_shape) e ∙ get_or-take n gs j no_shape l in
-    subst (λ g. sound g ≡ true) b (get_or ss j no_sound_shape).sound

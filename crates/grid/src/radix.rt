@@ -1,5 +1,5 @@
 //! Places worked out from their numbers, and numbers from places.
-ghost use Rattle.std.specs.Prelude.{◌≡◌, ℕ, ◌<◌, ◌≤◌, Decides, slice_index};
+ghost use Rattle.std.specs.Prelude.{◌≡◌, ℕ, ◌<◌, ◌≤◌, Decides, MatchOption, slice_index};
 ghost use Rattle.layout.specs.Places.{place};
 ghost use Rattle.layout.specs.Layouts.{Level};
 ghost use Rattle.layout.specs.Answers.{index_of};
@@ -60,4 +60,11 @@ pub(crate) fn is_level(rank: usize, n: [usize; 4]) -> bool
     ensures level { Decides result (Level rank (place (slice_index n 0) (slice_index n 1) (slice_index n 2) (slice_index n 3))) }
 {
     ((rank <= 1) | (n[1] == n[0])) & ((rank <= 2) | (n[2] == n[0])) & ((rank <= 3) | (n[3] == n[0]))
+}
+
+/// The number of a place of a diagonal; none off it.
+pub(crate) fn diagonal_number(rank: usize, e: [usize; 4]) -> Option<usize>
+    ensures { MatchOption result (Level rank (place (slice_index e 0) (slice_index e 1) (slice_index e 2) (slice_index e 3)) → ⊥) (λ k. Level rank (place (slice_index e 0) (slice_index e 1) (slice_index e 2) (slice_index e 3)) × (k ≡ slice_index e 0)) }
+{
+    is_level(rank, e).then_some(e[0])
 }

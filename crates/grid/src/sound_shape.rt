@@ -5,7 +5,7 @@ ghost use Rattle.layout.specs.Layouts.{count as places_count};
 ghost use Rattle.layout.specs.Answers.{shape_of, index_of, place_in};
 ghost use Rattle.grid.specs.Grids.{grid_layout, sound, broken};
 
-use crate::radix::{diagonal_place, is_level, product, ravelled, unravelled};
+use crate::radix::{diagonal_number, diagonal_place, product, ravelled, unravelled};
 use crate::rules::check_shape;
 use crate::shapes::GridShape;
 use layout::fault::Rule;
@@ -38,6 +38,7 @@ impl SoundShape {
     }
 
     /// How many places there are.
+    #[tactic(auto, using(crate::proofs::Answering::count_dense, crate::proofs::Answering::count_diagonal))]
     pub fn count(&self) -> usize
         ensures { result ≡ places_count (grid_layout self.now.shape) }
     {
@@ -91,7 +92,7 @@ impl SoundShape {
         let e = entries_inside(self.shape.rank, n, index)?;
         match self.shape.kind {
             LayoutKind::Dense => Some(ravelled(n, e)),
-            LayoutKind::Diagonal => is_level(self.shape.rank, e).then_some(e[0]),
+            LayoutKind::Diagonal => diagonal_number(self.shape.rank, e),
             LayoutKind::Sparse => None,
         }
     }

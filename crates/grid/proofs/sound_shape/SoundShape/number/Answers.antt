@@ -20,4 +20,4 @@ returns-in-Dense c =
 pub returns-in-Diagonal : goal.returns-in-Diagonal
 returns-in-Diagonal c =
     let n : length c.args.self.now.shape.lengths ≡ 4 = search rules in
-    c.then_some.ensures ∙ number_diagonal c.args.self.now.shape c.args.self.now.sound n c.padded-n.result c.padded-n.ensures c.args.index c.is_level.result c.in_ok-e.e c.in-Diagonal.is c.in_ok-e.ensures c.is_level.ensures.level
+    number_diagonal c.args.self.now.shape c.args.self.now.sound n c.padded-n.result c.padded-n.ensures c.args.index c.diagonal_number.result c.in_ok-e.e c.in-Diagonal.is c.in_ok-e.ensures c.diagonal_number.ensures
