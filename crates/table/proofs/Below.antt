@@ -2,9 +2,8 @@
 use Rattle.std.proofs.Common.{◌≡◌, ℕ, zero, suc, ◌<◌, Bool, true, false, Decides, ◌&&◌, ltb, List, sym, refl, ap, ◌∙◌, inl, inr, arith}
 use Rattle.std.proofs.lemmas.Bool.{and_parts, ltb-true, cases_order, cases_Bool}
 use Rattle.std.proofs.lemmas.Bool.Decides.{nat_tests}
-use Rattle.layout.specs.Places.{Place, Before, Inside, axis, entries}
-use Rattle.grid.proofs.Answering.{fours}
-use Rattle.table.specs.Records.{each_below, inside_test, before_test, place_of}
+use Rattle.layout.specs.Places.{Place, Before, Inside, axis}
+use Rattle.table.specs.Records.{each_below, inside_test, before_test}
 
 module _ (f : ℕ → Bool) where
   pub each_says : (n k : ℕ) → each_below n f ≡ true → k < n → f k ≡ true
@@ -33,10 +32,3 @@ inside_said s p h =
 
 pub before_said : (p q : Place) → before_test p q ≡ true → Before p q
 before_said p q h = grind (arith, nat_tests)
-
--- the tests of places as they were read
-pub inside_read : (n s q : List ℕ) (p : Place) → n ≡ fours s → q ≡ entries p → inside_test n (place_of q) ≡ inside_test s p
-inside_read n s q p e i = ap (λ m. inside_test m (place_of q)) e ∙ ap (λ t. inside_test s (place_of t)) i
-
-pub before_read : (q q' : List ℕ) (p p' : Place) → q ≡ entries p → q' ≡ entries p' → before_test (place_of q) (place_of q') ≡ before_test p p'
-before_read q q' p p' e i = ap (λ t. before_test (place_of t) (place_of q')) e ∙ ap (λ t. before_test p (place_of t)) i

@@ -1,13 +1,11 @@
 //! The places of a sparse layout.
-ghost use Rattle.std.specs.Prelude.{◌≡◌, ℕ, ◌+◌, ◌-◌, ◌<◌, ◌≤◌, true, false, Decides, MatchOption, MatchResult, ◌≢◌};
+ghost use Rattle.std.specs.Prelude.{◌≡◌, ℕ, ◌+◌, ◌-◌, ◌<◌, ◌≤◌, false, MatchOption, ◌≢◌};
 ghost use Rattle.std.specs.Ordering.{MatchOrdering};
-ghost use Rattle.layout.specs.declared.fault.Rule.TheVariants as rule;
-ghost use Rattle.layout.specs.Places.{Before, Inside, entries};
-ghost use Rattle.table.specs.Records.{record_shape, record_entry, record_place, Held, held, Ascending, place_of, inside_test, before_test, all_inside, all_before};
+ghost use Rattle.layout.specs.Places.{Before, entries};
+ghost use Rattle.table.specs.Records.{record_entry, record_place, Held, held, Ascending, place_of, inside_test, before_test, all_inside, all_before};
 
 use crate::record::LayoutRecord;
 use grid::shapes::GridShape;
-use layout::fault::Rule;
 use std::cmp::Ordering;
 
 /// The order of two places: that of the first entries that differ.
@@ -41,16 +39,16 @@ pub(crate) struct Places<'a> {
 
 impl<'a> Places<'a> {
     /// The places of a record, if the pool has their entries.
-    pub(crate) fn new(pool: &'a [u16], layout: LayoutRecord) -> Result<Places<'a>, Rule>
+    pub(crate) fn new(pool: &'a [u16], layout: LayoutRecord) -> Option<Places<'a>>
         requires rank { layout.rank ≤ 4 }
         requires count { layout.count ≤ 65536 }
-        ensures { MatchResult result (λ p. (p.pool.now ≡ pool.now) × (p.layout ≡ layout)) (λ r. (r ≡ rule.Pool) × (held pool.now layout ≡ false)) }
+        ensures { MatchOption result (held pool.now layout ≡ false) (λ p. (p.pool.now ≡ pool.now) × (p.layout ≡ layout)) }
     {
         let need = layout.count * layout.rank;
         if need <= pool.len() && layout.start <= pool.len() - need {
-            Ok(Places { pool, layout })
+            Some(Places { pool, layout })
         } else {
-            Err(Rule::Pool)
+            None
         }
     }
 

@@ -41,7 +41,9 @@ impl<'a> SparseLayout<'a> {
         if layout.count < 1 || layout.count > 65536 {
             return Err(Rule::Count);
         }
-        let places = Places::new(pool, layout)?;
+        let Some(places) = Places::new(pool, layout) else {
+            return Err(Rule::Pool);
+        };
         if !places.are_inside() {
             return Err(Rule::Inside);
         }
@@ -81,6 +83,7 @@ impl<'a> SparseLayout<'a> {
     }
 
     /// The place with a number, if there is one.
+    #[tactic(auto, using(crate::proofs::Lookups::place_there, crate::proofs::Lookups::place_not))]
     pub(crate) fn place(&self, number: usize) -> Option<Index>
         ensures { result ≡ place_in (sparse_layout self.now.places.pool.now self.now.places.layout) number }
     {
