@@ -1,13 +1,10 @@
--- Where a place's entries stand in the pool, and the turns of the search.
-use Rattle.std.proofs.Common.{◌≡◌, ℕ, ◌+◌, ◌*◌, ◌<◌, ◌≤◌, List, sym, ap, subst, inl, inr, mul-le-mul_right, add-mul, arith}
+-- The turns of the search.
+use Rattle.std.proofs.Common.{◌≡◌, ℕ, ◌+◌, ◌<◌, ◌≤◌, List, sym, ap, subst, inl, inr, arith}
 use Rattle.std.proofs.lemmas.Bool.{cases_order}
 use Rattle.layout.specs.Places.{Place, Before, entries}
 use Rattle.layout.proofs.Order.{before_trans}
 use Rattle.table.specs.declared.record.LayoutRecord.{LayoutRecord}
 use Rattle.table.specs.Records.{record_place, Ascending, place_of}
-
-pub row_fits : (k n w : ℕ) → k < n → k * w + w ≤ n * w
-row_fits k n w h = omega (arith, mul-le-mul_right w h, add-mul k 1 w)
 
 -- a turn of the search: q is the place in the middle, as it was read
 module _ (pool : List ℕ) (r : LayoutRecord) (up : Ascending pool r) (p : Place) (q : List ℕ) (mid : ℕ) (in_row : mid < r.count) (e : q ≡ entries (record_place pool r mid)) where

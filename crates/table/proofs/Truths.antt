@@ -8,7 +8,7 @@ use Rattle.std.specs.List.{range_with_len}
 use Rattle.layout.specs.declared.kind.LayoutKind.{LayoutKind}
 use Rattle.layout.specs.declared.kind.LayoutKind.TheVariants.{Dense, Diagonal, Sparse}
 use Rattle.layout.specs.Places.{origin, entries, Before, Inside}
-use Rattle.layout.specs.Layouts.{Valid}
+use Rattle.layout.specs.Layouts.{Valid, count, at}
 use Rattle.layout.specs.Rules.{none, axes_in_range}
 use Rattle.layout.proofs.Order.{before_trans}
 use Rattle.layout.proofs.Rules.{all_kept}
@@ -16,6 +16,13 @@ use Rattle.grid.proofs.Validity.{axes_say, grid_valid}
 use Rattle.table.specs.declared.record.LayoutRecord.{LayoutRecord}
 use Rattle.table.specs.Records.{record_shape, record_place, sparse_layout, Held, Ascending, grid_of, record_layout, layout_by, inside_test, before_test, sparse_tests, sparse_kept, broken_as, kept}
 use Rattle.table.proofs.Below.{each_says, inside_said, before_said}
+
+module _ (pool : List ℕ) (r : LayoutRecord) where
+  pub sparse_count : count (sparse_layout pool r) ≡ r.count
+  sparse_count = length-map-range_with_len (record_place pool r) 0 r.count
+
+  pub sparse_at : (k : ℕ) → k < r.count → at (sparse_layout pool r) k ≡ record_place pool r k
+  sparse_at k l = get_or-map-range_with_len (record_place pool r) 0 r.count k k origin l (omega arith)
 
 pub record Sparsely (pool : List ℕ) (r : LayoutRecord) : Type 0 where
   pub low : 1 ≤ length (record_shape r)
@@ -63,20 +70,17 @@ module _ (pool : List ℕ) (r : LayoutRecord) (h : sparse_kept pool r ≡ true) 
   entry_small k l (suc (suc (suc zero))) = omega (arith, ((sparsely pool r h).inside k l).3, (axes_say (record_shape r) (sparsely pool r h).axes 3 (omega arith)).1)
   entry_small k l (suc (suc (suc (suc i)))) = omega arith
 
-  at_row : (k : ℕ) → k < r.count → get_or (map (record_place pool r) (range_with_len 0 r.count)) k origin ≡ record_place pool r k
-  at_row k l = get_or-map-range_with_len (record_place pool r) 0 r.count k k origin l (omega arith)
-
   pub sparse_valid : Valid (sparse_layout pool r)
   sparse_valid =
       let y = sparsely pool r h in
-      let c = length-map-range_with_len (record_place pool r) 0 r.count in
+      let c = sparse_count pool r in
       record {
         ranked = few_axes;
         axes = All-from_get_or (λ n. (1 ≤ n) × (n ≤ 4096)) (record_shape r) 1 (λ i l. axes_say (record_shape r) y.axes i (omega (arith, few_axes)));
         some = rw c y.some;
         many = rw c y.few;
-        inside = All-from_get_or (Inside (record_shape r)) (map (record_place pool r) (range_with_len 0 r.count)) origin (λ k l. let l' : k < r.count = rw c at l in rw (at_row k l') (y.inside k l'));
-        ascending = λ j k l l'. let b : k < r.count = rw c at l' in rw (at_row j (omega arith), at_row k b) (ascends j k l b);
+        inside = All-from_get_or (Inside (record_shape r)) (map (record_place pool r) (range_with_len 0 r.count)) origin (λ k l. let l' : k < r.count = rw c at l in rw (sparse_at pool r k l') (y.inside k l'));
+        ascending = λ j k l l'. let b : k < r.count = rw c at l' in rw (sparse_at pool r j (omega arith), sparse_at pool r k b) (ascends j k l b);
         of_kind = y.low;
       }
 
