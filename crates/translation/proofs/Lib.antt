@@ -1,4 +1,5 @@
 pub mod Fronts
+pub mod Straying
 pub mod Covering
 pub mod Ranging
 pub mod Landing

@@ -1,26 +1,22 @@
 //! A block's start in its target.
 ghost use Rattle.std.specs.Prelude.{◌≡◌, ℕ, ◌<◌, ◌≤◌, pos, ◌+ℤ◌, ◌≤ℤ◌, ◌<ℤ◌, slice_index_or};
 ghost use Rattle.layout.specs.Layouts.{below};
-ghost use Rattle.translation.specs.Tos.{start_refused, strays_at as strays_at_rule, Told};
+ghost use Rattle.translation.specs.Tos.{start_refused, strays as strays_rule, Told};
 
 use layout::index::Index;
 
-fn strays_at(rank: usize, start: Index, i: usize) -> bool
-    requires { i < 4 }
-    ensures { result ≡ strays_at_rule rank start i }
+/// Whether a start entry beyond a rank is not 0.
+fn strays(rank: usize, start: Index) -> bool
+    ensures { result ≡ strays_rule rank start }
 {
-    (rank <= i) & (start[i] != 0)
+    start.iter().skip(rank).any(|entry| *entry != 0)
 }
 
 /// Whether a start does not fit a via and a target of these ranks.
 pub(crate) fn is_refused(via_rank: usize, start: Index, target_rank: usize) -> bool
     ensures { result ≡ start_refused via_rank start target_rank }
 {
-    (target_rank < via_rank)
-        | (strays_at(target_rank, start, 0)
-            | strays_at(target_rank, start, 1)
-            | strays_at(target_rank, start, 2)
-            | strays_at(target_rank, start, 3))
+    target_rank < via_rank || strays(target_rank, start)
 }
 
 /// A start entry plus a place's entry, as far as a lookup tells: past the longest axis no entry is found.
