@@ -1,5 +1,5 @@
 -- The variables that records stand for, and what a name is.
-use Rattle.std.specs.Prelude.{ℕ, ◌-◌, Bool, true, false, cond, not, ◌||◌, List, [], length, take, drop, ℤ, Some, None, Option, ◌==◌, nat_lt, slice_index_or, Float}
+use Rattle.std.specs.Prelude.{◌≡◌, ◌≢◌, ℕ, ◌-◌, Bool, true, false, cond, not, ◌||◌, List, [], length, take, drop, ℤ, Some, None, Option, Result, MatchResult, ◌==◌, nat_lt, slice_index_or, Float}
 use Rattle.std.specs.Float.{float_zero}
 use Rattle.std.specs.Option.{option_map}
 use Rattle.layout.specs.Layouts.{Layout, blank, count}
@@ -18,6 +18,16 @@ abbrev pub is_constant : Class → Bool
 is_constant Constant = true
 is_constant Data = false
 is_constant Unstored = false
+
+-- the number of a class
+abbrev pub class_number : Class → ℕ
+class_number Constant = 0
+class_number Data = 1
+class_number Unstored = 2
+
+-- a number is read as the class that has it, and refused where none has
+abbrev pub ClassRead : {E : Type 0} → ℕ → Result Class E → Type 0
+ClassRead n r = MatchResult r (λ c. class_number c ≡ n) (λ _. (c : Class) → class_number c ≢ n)
 
 -- what a name is, by the variables of env and their values: 0.0 where there is no variable or no element
 abbrev pub read_of : List Float → List ℕ → List ℤ → List ℕ → Option Variable → Float
@@ -65,6 +75,17 @@ values ls constants rs v = values_by ls constants (recorded rs v)
 -- what a name is by layouts, records and constants
 abbrev pub read_by : List Layout → List VariableRecord → List Float → List ℕ → List ℤ → ℕ → Letters → Float
 read_by ls rs constants = reading (environment ls rs) (values ls constants rs)
+
+-- what names are read from: layouts, records, constants, the block's letters, and the source place as an index
+pub record Readable : Type 0 where
+  pub layouts : List Layout
+  pub variables : List VariableRecord
+  pub constants : List Float
+  pub block : List ℕ
+  pub place : List ℤ
+
+abbrev pub read_from : Readable → ℕ → Letters → Float
+read_from r = read_by r.layouts r.variables r.constants r.block r.place
 
 -- every variable is ready but that of the open tensor, which has a record
 abbrev pub ready_but : Option ℕ → ℕ → Bool
