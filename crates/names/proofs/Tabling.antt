@@ -1,8 +1,6 @@
 -- The entries of a binary table.
-use Rattle.std.proofs.Common.{◌≡◌, ℕ, ◌+◌, ◌<◌, ◌≤◌, List, length, get_or, set, ℤ, pos, IfSome, Some, None, Option, arith}
-use Rattle.std.proofs.lemmas.List.{get_or-map, length-map}
-use Rattle.std.proofs.lemmas.List.Edits.{paste_more}
-use lib.Seq.{paste}
+use Rattle.std.proofs.Common.{◌≡◌, ℕ, ◌+◌, ◌<◌, ◌≤◌, List, length, get_or, take, set, ℤ, pos, IfSome, Some, None, Option, arith}
+use Rattle.std.proofs.lemmas.List.{take_more, take_more_set, get_or-map, length-map}
 use Rattle.layout.specs.Places.{Place, origin}
 use Rattle.layout.specs.Layouts.{Layout, Valid, count, at, wide}
 use Rattle.layout.specs.Answers.{index_of}
@@ -19,10 +17,11 @@ pub small_number : (l : Layout) (x : List ℤ) → Valid l → IfSome (wide l x)
 small_number l x v = few (count l) 65536 (wide l x) (below_wide l x) v.many
 
 -- one more entry
-pub table_written : (l s : Layout) (slots : List ℕ) (before table new : List ℤ) (from k : ℕ) (v : ℤ) → table ≡ paste before from (binary_table l s slots) k → k < count s → from + count s ≤ length before → v ≡ entry_of (table_element l slots (index_of (at s k))) → new ≡ set table (from + k) v → new ≡ paste before from (binary_table l s slots) (k + 1)
-table_written l s slots before table new from k v e h room is set_is =
+pub table_more : (l s : Layout) (slots : List ℕ) (t : List ℤ) (k : ℕ) (v e : ℤ) → k < length t → k < count s → v ≡ e → e ≡ entry_of (table_element l slots (index_of (at s k))) → take k t ≡ take k (binary_table l s slots) → take (k + 1) (set t k v) ≡ take (k + 1) (binary_table l s slots)
+table_more l s slots t k v e h m same is so_far =
     let f = λ (p : Place). entry_of (table_element l slots (index_of p)) in
     let n = length-map s.places f in
-    let w : get_or (binary_table l s slots) k (pos 0) ≡ f (at s k) = get_or-map f s.places k origin (pos 0) h in
-    let m = paste_more before from (binary_table l s slots) k (pos 0) (omega arith) (omega arith) in
+    let w : get_or (binary_table l s slots) k (pos 0) ≡ f (at s k) = get_or-map f s.places k origin (pos 0) m in
+    let a = take_more_set t k v h in
+    let b = take_more (binary_table l s slots) k (pos 0) (omega arith) in
     cc

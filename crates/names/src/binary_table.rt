@@ -1,6 +1,5 @@
 //! Binary tables: for each source place, the number that it has in a name's layout.
 ghost use Rattle.std.specs.Prelude.{◌≡◌, ◌+◌, ◌<◌, ◌≤◌, length, IfSome, nat_le};
-ghost use Rattle.std.proofs.Math.Seq.{paste};
 ghost use Rattle.layout.specs.Layouts.{at as place_of, count as count_of};
 ghost use Rattle.layout.specs.Answers.{index_of};
 ghost use Rattle.names.specs.Reading.{slots_of, table_element};
@@ -22,10 +21,12 @@ fn table_entry(number: Option<usize>) -> i32
     requires { IfSome number (λ n. n < 65536) }
     ensures { result ≡ entry_of number }
 {
-    match number {
-        Some(n) => n as i32,
-        None => ABSENT,
-    }
+    number.map_or(
+        ABSENT,
+        |n|
+            requires { n < 65536 }
+        { n as i32 },
+    )
 }
 
 /// The entry of source place `k`.
@@ -41,19 +42,18 @@ fn entry_at<C: Catalogue>(
     table_entry(layout.find_nnz_index(permuted(rank, slots, source.place_or_zeros(k))))
 }
 
-/// Writes the entry of each source place from a position on.
+/// Writes the entry of each source place.
 fn write_table<C: Catalogue>(
     layout: &LayoutRef<C>,
     slots: &[usize],
     source: &LayoutRef<C>,
     table: &mut [i32],
-    at: usize,
 )
-    requires { at + count_of source.now ≤ length table.old }
-    ensures { table.new ≡ paste table.old at (binary_table layout.now source.now slots.now) (count_of source.now) }
+    requires { length table.old ≡ count_of source.now }
+    ensures { table.new ≡ binary_table layout.now source.now slots.now }
 {
-    for k in 0..source.shape().count {
-        table[at + k] = entry_at(layout, slots, source, k);
+    for (k, entry) in table.iter_mut().enumerate() {
+        *entry = entry_at(layout, slots, source, k);
     }
 }
 
@@ -82,7 +82,12 @@ pub fn to_binary_data_layout<C: Catalogue>(
     if !has_room(table.len(), at, count) {
         return Err(NamesFault::NoRoom);
     }
-    write_table(&layout, permutation.meant(), &source, table, at);
+    write_table(
+        &layout,
+        permutation.meant(),
+        &source,
+        &mut table[at..at + count],
+    );
     Ok(at + count)
 }
 

@@ -1,5 +1,5 @@
 //! The values of an expression at all source places.
-ghost use Rattle.std.specs.Prelude.{◌≡◌, ◌≤◌, length};
+ghost use Rattle.std.specs.Prelude.{◌≡◌, length, Ok, Err, MatchResult};
 ghost use Rattle.names.specs.Outcomes.{value_of, gathered, outcomes_of, PutInFront};
 
 use crate::evaluate::{Checked, Evaluation};
@@ -10,19 +10,17 @@ use expression::host::Host;
 use expression::node::Node;
 use layout::catalogue::Catalogue;
 
-/// Puts the values of an expression at the first `count` source places into the front of `out`, or
-/// stops at the first place without one.
+/// Writes the values of an expression at as many source places as there is room for, or stops at the
+/// first place without one.
 fn write_values<C: Catalogue, H: Host>(
     expression: &Checked<C>,
     host: &H,
-    count: usize,
     out: &mut [f64],
 ) -> Result<(), ExpressionFault>
-    requires { count ≤ length out.old }
-    ensures { PutInFront (gathered (value_of (H.answers host.now) expression.now) count) out.old out.new result }
+    ensures { MatchResult (gathered (value_of (H.answers host.now) expression.now) (length out.old)) (λ values. (result ≡ Ok tt) × (out.new ≡ values)) (λ fault. result ≡ Err fault) }
 {
-    for k in 0..count {
-        out[k] = expression.value_at(host, k)?;
+    for (k, value) in out.iter_mut().enumerate() {
+        *value = expression.value_at(host, k)?;
     }
     Ok(())
 }
@@ -43,6 +41,6 @@ pub fn evaluate_places<C: Catalogue, H: Host>(
     if count > out.len() {
         return Err(NamesFault::NoRoom);
     }
-    write_values(&expression, evaluation.host, count, out)?;
+    write_values(&expression, evaluation.host, &mut out[..count])?;
     Ok(())
 }

@@ -1,4 +1,4 @@
-use Rattle.std.proofs.Common.{◌≡◌, ◌-◌, [], ◌∷◌, ◌++◌, length, take, drop, get_or, Some, sym, ap, ◌∙◌}
+use Rattle.std.proofs.Common.{◌≡◌, ◌-◌, [], ◌∷◌, ◌++◌, length, take, drop, get_or, Some, ap}
 use Rattle.std.specs.Result.{result_ok}
 use lib.Ieee.{nan}
 use Rattle.expression.specs.declared.node.Node.TheVariants.{Number}
@@ -17,10 +17,10 @@ loop-i-preserved g c =
     let n = get_or c.args.nodes.now c.loop-i.i (Number nan) in
     let a = c.as_slice.result.now in
     let low = c.len.result - t in
-    let found : Some v ≡ f n (take (length a - low) (drop low a)) = sym (c.ok_or.ensures.ok_part ∙ ap result_ok c.in_ok-value.was) ∙ c.value_of_node.ensures in
+    let found : Some v ≡ f n (take (length a - low) (drop low a)) = cc (c.ok_or.ensures.ok_part, ap result_ok c.in_ok-value.was, c.value_of_node.ensures) in
     let end = end_of s (length s - t) in
-    let there : f n (take (length a - low) (drop low a)) ≡ f n (drop (length s - t) s) = cc in
+    let there : take (length a - low) (drop low a) ≡ drop (length s - t) s = cc in
     record {
       sound = sound_more c.args.nodes.now c.loop-i.i t _ c.loop-i-test.true c.values_taken.ensures s c.push.new.self.items v is c.loop-i.invariant.sound;
-      value = value_more c.args.nodes.now c.loop-i.i t _ c.loop-i-test.true c.values_taken.ensures s c.push.new.self.items v is f (evaluated f c.args.nodes.now) (found ∙ there) c.loop-i.invariant.value;
+      value = value_more c.args.nodes.now c.loop-i.i t _ c.loop-i-test.true c.values_taken.ensures s c.push.new.self.items v is f (evaluated f c.args.nodes.now) (take (length a - low) (drop low a)) found there c.loop-i.invariant.value;
     }
