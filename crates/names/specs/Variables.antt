@@ -1,5 +1,5 @@
 -- The variables that records stand for, and what a name is.
-use Rattle.std.specs.Prelude.{◌≡◌, ◌≢◌, ℕ, ◌-◌, Bool, true, false, cond, not, ◌||◌, List, [], length, take, drop, ℤ, Some, None, Option, Result, MatchResult, ◌==◌, nat_lt, slice_index_or, Float}
+use Rattle.std.specs.Prelude.{ℕ, zero, suc, ◌-◌, Bool, true, false, cond, not, ◌||◌, List, [], length, take, drop, ℤ, Some, None, Option, ◌==◌, nat_lt, slice_index_or, Float}
 use Rattle.std.specs.Float.{float_zero}
 use Rattle.std.specs.Option.{option_map}
 use Rattle.layout.specs.Layouts.{Layout, blank, count}
@@ -19,15 +19,12 @@ is_constant Constant = true
 is_constant Data = false
 is_constant Unstored = false
 
--- the number of a class
-abbrev pub class_number : Class → ℕ
-class_number Constant = 0
-class_number Data = 1
-class_number Unstored = 2
-
--- a number is read as the class that has it, and refused where none has
-abbrev pub ClassRead : {E : Type 0} → ℕ → Result Class E → Type 0
-ClassRead n r = MatchResult r (λ c. class_number c ≡ n) (λ _. (c : Class) → class_number c ≢ n)
+-- the class with a number: 0 constant, 1 data, 2 unstored
+abbrev pub class_of : ℕ → Option Class
+class_of zero = Some Constant
+class_of (suc zero) = Some Data
+class_of (suc (suc zero)) = Some Unstored
+class_of (suc (suc (suc n))) = None
 
 -- what a name is, by the variables of env and their values: 0.0 where there is no variable or no element
 abbrev pub read_of : List Float → List ℕ → List ℤ → List ℕ → Option Variable → Float

@@ -1,6 +1,7 @@
 //! What is kept of a variable.
 ghost use Rattle.std.specs.Prelude.{◌≡◌};
-ghost use Rattle.names.specs.Variables.{ClassRead, recorded, described as described_by, ready_but, is_constant as constant_class};
+ghost use Rattle.std.specs.Result.{result_ok};
+ghost use Rattle.names.specs.Variables.{class_of, recorded, described as described_by, ready_but, is_constant as constant_class};
 
 use expression::node::VariableNumber;
 
@@ -22,7 +23,7 @@ pub struct UnknownClass;
 impl TryFrom<u8> for Class {
     type Error = UnknownClass;
 
-    ghost try_from_gives = { ClassRead };
+    ghost try_from_gives = { λ number r. result_ok r ≡ class_of number };
 
     fn try_from(number: u8) -> Result<Class, UnknownClass> {
         match number {
