@@ -38,21 +38,15 @@ one_value [] v n e = absurd (omega arith)
 one_value (x ∷ []) v n e = ap (λ y. y ∷ []) e
 one_value (x ∷ y ∷ ys) v n e = absurd (omega arith)
 
-ok_same : (x y : Float) → ◌≡◌ {A = Result Float ℕ} (Ok x) (Ok y) → x ≡ y
-ok_same x y e = cc
-
-err_not : (i : ℕ) (v : Float) → ◌≡◌ {A = Result Float ℕ} (Err i) (Ok v) → ⊥
-err_not i v e = let z : ◌≡◌ {A = ℕ} 0 1 = cc in omega arith
-
 -- if e, from values s, comes to v, then over b it puts v there and goes on with ns
 inside : (f : Node → List Float → Option Float) (e ns : List Node) (i j : ℕ) (b s : List Float) (v : Float) → sound_from (length s) e ≡ true → run f i e s ≡ Ok v → run f j (e ++ ns) (b ++ s) ≡ run f (j + length e) ns (b ++ v ∷ [])
 inside f [] ns i j b s v d h =
     let n : j ≡ j + 0 = omega arith in
-    ap (λ l. run f j ns (b ++ l)) (one_value s v (eqb-true (length s) 1 d) (ok_same (get_or s 0 nan) v h)) ∙ ap (λ k. run f k ns (b ++ v ∷ [])) n
+    ap (λ l. run f j ns (b ++ l)) (one_value s v (eqb-true (length s) 1 d) (cc)) ∙ ap (λ k. run f k ns (b ++ v ∷ [])) n
 inside f (n ∷ e) ns i j b s v d h = by (f n (drop (length s - takes n) s)) refl (λ s' d' h'. inside f e ns (i + 1) (j + 1) b s' v d' h')
   where
     by : (o : Option Float) → f n (drop (length s - takes n) s) ≡ o → ((s' : List Float) → sound_from (length s') e ≡ true → run f (i + 1) e s' ≡ Ok v → run f (j + 1) (e ++ ns) (b ++ s') ≡ run f (j + 1 + length e) ns (b ++ v ∷ [])) → run f j (n ∷ (e ++ ns)) (b ++ s) ≡ run f (j + suc (length e)) ns (b ++ v ∷ [])
-    by None z ih = absurd (err_not i v (ap (λ o. found_at i o (λ x. run f (i + 1) e (take (length s - takes n) s ++ x ∷ []))) (sym z) ∙ h))
+    by None z ih = (let r : run f i (n ∷ e) s ≡ Err i = ap (λ o. found_at i o (λ x. run f (i + 1) e (take (length s - takes n) s ++ x ∷ []))) z in absurd (cc))
     by (Some x) z ih =
         let p = and_parts (may_follow (length s) n) (sound_from (length s - takes n + 1) e) d in
         let m : takes n ≤ length s = (follows (length s) n p.0).1 in

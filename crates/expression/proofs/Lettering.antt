@@ -1,45 +1,24 @@
 -- Letters, looked for one by one.
-use Rattle.std.proofs.Common.{◌≡◌, ℕ, suc, ◌+◌, ◌-◌, ◌<◌, ◌≤◌, min, true, false, cond, not, ◌&&◌, eqb, List, length, get_or, take, drop, sym, ap, ◌∙◌, inl, inr, arith}
-use Rattle.std.proofs.lemmas.List.{at_drop_more, at_drop_all, take_all, length-take, take_rest}
-use Rattle.std.proofs.lemmas.Bool.{cases_lt, eq-eqb, ne_eqb}
-use Rattle.expression.specs.Letterings.{position, among, distinct}
+use Rattle.std.proofs.Common.{◌≡◌, ℕ, suc, ◌+◌, ◌≤◌, cond, eqb, List, [], ◌∷◌, length, refl, ap, arith}
+use Rattle.std.specs.List.{list_any, position_or_len}
+use Rattle.std.specs.List as lists
+use Rattle.std.specs.Option.{unwrap_or}
+use Rattle.std.proofs.lemmas.Bool.Decides.{nat_tests}
+use Rattle.std.proofs.lemmas.List.Recursion.{is_position_or_len}
+use Rattle.expression.specs.Letterings.{position, among}
 
-pub take_min : (n : ℕ) (xs : List ℕ) → length xs ≡ 4 → take (min n 4 - 0) xs ≡ take n xs
-take_min n xs h =
-    elim (cases_lt n 4) [
-      | inl l ↦ (let e : min n 4 - 0 ≡ n = omega arith in ap (λ k. take k xs) e)
-      | inr l ↦ (let e : min n 4 - 0 ≡ 4 = omega arith in ap (λ k. take k xs) e ∙ take_all 4 xs (omega arith) ∙ sym (take_all n xs (omega arith)))
-    ]
+position_is : (c : ℕ) (xs : List ℕ) → position c xs ≡ position_or_len (λ x. eqb x c) xs
+position_is c xs = is_position_or_len (position c) (λ x. eqb x c) refl (λ x ys. let e : suc (position c ys) ≡ 1 + position c ys = omega arith in ap (cond (eqb x c) 0) e) xs
 
-pub take_min_few : (n : ℕ) (xs : List ℕ) → length (take (min n 4 - 0) xs) ≤ 4
-take_min_few n xs = omega (arith, length-take (min n 4 - 0) xs)
+position_within : (c : ℕ) (xs : List ℕ) → position c xs ≤ length xs
+position_within c [] = omega arith
+position_within c (x ∷ xs) = let e = position_within c xs in grind (arith, nat_tests)
 
-module _ (c : ℕ) (xs : List ℕ) (i : ℕ) where
-  position_step : (d : ℕ) → i < length xs → position c (drop i xs) ≡ cond (eqb (get_or xs i d) c) 0 (suc (position c (drop (i + 1) xs)))
-  position_step d h = at_drop_more (position c) xs i d h
+-- `position`, or the length
+pub position_found : (c : ℕ) (xs : List ℕ) → unwrap_or (lists.position (λ x. eqb x c) xs) (length xs) ≡ position c xs
+position_found c xs = let w = position_within c xs in rw (← position_is c xs) (grind (arith, nat_tests))
 
-  pub position_found : i < length xs → get_or xs i 0 ≡ c → position c xs ≡ i + position c (drop i xs) → i ≡ position c xs
-  position_found h e inv =
-      let s : position c (drop i xs) ≡ 0 = position_step 0 h ∙ ap (λ b. cond b 0 (suc (position c (drop (i + 1) xs)))) (eq-eqb _ _ e) in
-      omega arith
-
-  pub position_passed : i < length xs → (get_or xs i 0 ≡ c → ⊥) → position c xs ≡ i + position c (drop i xs) → position c xs ≡ i + 1 + position c (drop (i + 1) xs)
-  position_passed h e inv =
-      let s : position c (drop i xs) ≡ suc (position c (drop (i + 1) xs)) = position_step 0 h ∙ ap (λ b. cond b 0 (suc (position c (drop (i + 1) xs)))) (ne_eqb _ _ e) in
-      omega arith
-
-  pub position_none : length xs ≤ i → i ≤ length xs → position c xs ≡ i + position c (drop i xs) → length xs ≡ position c xs
-  position_none h g inv = let s : position c (drop i xs) ≡ 0 = at_drop_all (position c) xs i h in omega arith
-
-module _ (xs : List ℕ) (i : ℕ) where
-  distinct_step : (d : ℕ) → i < length xs → distinct (drop i xs) ≡ (not (among (get_or xs i d) (take (length xs - (i + 1)) (drop (i + 1) xs))) && distinct (drop (i + 1) xs))
-  distinct_step d h = at_drop_more distinct xs i d h ∙ ap (λ l. not (among (get_or xs i d) l) && distinct (drop (i + 1) xs)) (sym (take_rest xs (i + 1)))
-
-  pub distinct_not : i < length xs → true ≡ among (get_or xs i 0) (take (length xs - (i + 1)) (drop (i + 1) xs)) → distinct (drop i xs) ≡ distinct xs → false ≡ distinct xs
-  distinct_not h e inv = ap (λ b. not b && distinct (drop (i + 1) xs)) e ∙ sym (distinct_step 0 h) ∙ inv
-
-  pub distinct_passed : i < length xs → false ≡ among (get_or xs i 0) (take (length xs - (i + 1)) (drop (i + 1) xs)) → distinct (drop i xs) ≡ distinct xs → distinct (drop (i + 1) xs) ≡ distinct xs
-  distinct_passed h e inv = ap (λ b. not b && distinct (drop (i + 1) xs)) e ∙ sym (distinct_step 0 h) ∙ inv
-
-  pub distinct_all : length xs ≤ i → distinct (drop i xs) ≡ distinct xs → true ≡ distinct xs
-  distinct_all h inv = sym (at_drop_all distinct xs i h) ∙ inv
+-- `contains`
+pub any_among : (c : ℕ) (xs : List ℕ) → list_any (λ x. eqb x c) xs ≡ among c xs
+any_among c [] = refl
+any_among c (x ∷ xs) = let e = any_among c xs in grind (arith, nat_tests)

@@ -1,19 +1,19 @@
 -- One condition of a piecewise passed, and the last argument.
-use Rattle.std.proofs.Common.{◌≡◌, ℕ, zero, suc, ◌+◌, ◌-◌, ◌*◌, ◌/◌, ◌<◌, ◌≤◌, true, false, cond, List, [], ◌∷◌, length, get_or, drop, sym, refl, ap, ◌∙◌, inl, inr, le_of_suc-le-suc, arith}
+use Rattle.std.proofs.Common.{◌≡◌, ℕ, zero, suc, ◌+◌, ◌-◌, ◌*◌, ◌/◌, ◌<◌, ◌≤◌, false, cond, List, [], ◌∷◌, length, get_or, drop, sym, refl, ap, ◌∙◌, inl, inr, le_of_suc-le-suc, arith}
 use lib.Ieee.{Float, nan, le}
 use Rattle.std.specs.Float as Floats
 use Rattle.expression.specs.Values.{piecewise}
 use Rattle.std.proofs.lemmas.Bool.{cases_Bool}
 use Rattle.expression.specs.Laws.{Accepts, FirstConditionGives}
 
-pub piece_step : (xs : List Float) (k : ℕ) → suc (suc k) < length xs → piecewise (drop k xs) ≡ cond (le Floats.float_zero (get_or xs k nan)) (get_or xs (suc k) nan) (piecewise (drop (suc (suc k)) xs))
+piece_step : (xs : List Float) (k : ℕ) → suc (suc k) < length xs → piecewise (drop k xs) ≡ cond (le Floats.float_zero (get_or xs k nan)) (get_or xs (suc k) nan) (piecewise (drop (suc (suc k)) xs))
 piece_step [] k h = absurd (omega arith)
 piece_step (c ∷ []) zero h = absurd (omega arith)
 piece_step (c ∷ v ∷ []) zero h = absurd (omega arith)
 piece_step (c ∷ v ∷ x ∷ xs) zero h = refl
 piece_step (x ∷ xs) (suc k) h = piece_step xs k (le_of_suc-le-suc h)
 
-pub piece_last : (xs : List Float) (k : ℕ) → k < length xs → length xs ≤ suc (suc k) → piecewise (drop k xs) ≡ get_or xs (length xs - 1) nan
+piece_last : (xs : List Float) (k : ℕ) → k < length xs → length xs ≤ suc (suc k) → piecewise (drop k xs) ≡ get_or xs (length xs - 1) nan
 piece_last [] k h g = absurd (omega arith)
 piece_last (x ∷ []) zero h g = refl
 piece_last (x ∷ y ∷ []) zero h g = refl
@@ -21,16 +21,6 @@ piece_last (x ∷ y ∷ z ∷ xs) zero h g = absurd (omega arith)
 piece_last (x ∷ xs) (suc k) h g =
     let e : suc (length xs) - 1 ≡ suc (length xs - 1) = omega arith in
     rw e (piece_last xs k (le_of_suc-le-suc h) (le_of_suc-le-suc g))
-
-pub piece_taken : (xs : List Float) (i : ℕ) → suc (suc (2 * i)) < length xs → le Floats.float_zero (get_or xs (2 * i) nan) ≡ true → piecewise (drop (2 * i) xs) ≡ piecewise xs → get_or xs (2 * i + 1) nan ≡ piecewise xs
-piece_taken xs i h t inv =
-    let e : 2 * i + 1 ≡ suc (2 * i) = omega arith in
-    ap (λ k. get_or xs k nan) e ∙ sym (piece_step xs (2 * i) h ∙ ap (λ b. cond b (get_or xs (suc (2 * i)) nan) (piecewise (drop (suc (suc (2 * i))) xs))) t) ∙ inv
-
-pub piece_passed : (xs : List Float) (i : ℕ) → suc (suc (2 * i)) < length xs → le Floats.float_zero (get_or xs (2 * i) nan) ≡ false → piecewise (drop (2 * i) xs) ≡ piecewise xs → piecewise (drop (2 * (i + 1)) xs) ≡ piecewise xs
-piece_passed xs i h t inv =
-    let e : 2 * (i + 1) ≡ suc (suc (2 * i)) = omega arith in
-    ap (λ k. piecewise (drop k xs)) e ∙ sym (piece_step xs (2 * i) h ∙ ap (λ b. cond b (get_or xs (suc (2 * i)) nan) (piecewise (drop (suc (suc (2 * i))) xs))) t) ∙ inv
 
 -- ---- the first condition that holds
 

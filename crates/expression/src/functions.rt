@@ -5,6 +5,7 @@ ghost use Rattle.std.specs.Float.{float_zero};
 ghost use Rattle.std.specs.Option.{option_map};
 ghost use Rattle.expression.specs.Values.{binary as binary_value, unary as unary_value, heaviside as heaviside_value, logistic as logistic_value, piecewise as piecewise_value, called};
 
+use crate::function::Function;
 use crate::host::Host;
 use crate::node::{BinaryOperator, UnaryOperator};
 
@@ -54,37 +55,33 @@ fn piecewise(arguments: &[f64]) -> f64
     requires { 1 ≤ length arguments.now }
     ensures { result ≡ piecewise_value arguments.now }
 {
-    let n = arguments.len();
-    for i in 0..(n - 1) / 2 {
-        if holds(arguments[2 * i]) {
-            return arguments[2 * i + 1];
+    let mut rest = arguments;
+    while let [condition, value, _, ..] = rest {
+        if holds(*condition) {
+            return *value;
         }
+        rest = &rest[2..];
     }
-    arguments[n - 1]
+    rest[rest.len() - 1]
 }
 
 /// By the host's exponential.
 fn sigmoid<H: Host>(host: &H, x: f64) -> Option<f64>
     ensures { result ≡ option_map logistic_value (H.answers host.now 7 (neg x ∷ [])) }
 {
-    match host.ask(7, &[-x]) {
-        Some(e) => Some(logistic(e)),
-        None => None,
-    }
+    host.ask(Function::Exp.into(), &[-x]).map(logistic)
 }
 
 /// A function at its arguments: none where it has no argument, or the host has no value.
 pub fn call<H: Host>(host: &H, code: u8, arguments: &[f64]) -> Option<f64>
     ensures { result ≡ called (H.answers host.now) code arguments.now }
 {
-    if arguments.len() == 0 {
-        return None;
-    }
-    match code {
-        11 => Some(arguments[0].abs()),
-        12 => sigmoid(host, arguments[0]),
-        15 => Some(heaviside(arguments[0])),
-        17 => Some(piecewise(arguments)),
+    let x = *arguments.first()?;
+    match Function::try_from(code) {
+        Ok(Function::Abs) => Some(x.abs()),
+        Ok(Function::Sigmoid) => sigmoid(host, x),
+        Ok(Function::Heaviside) => Some(heaviside(x)),
+        Ok(Function::Piecewise) => Some(piecewise(arguments)),
         _ => host.ask(code, arguments),
     }
 }

@@ -4,6 +4,7 @@
 pub mod codes;
 pub mod fault;
 pub mod formed;
+pub mod function;
 pub mod functions;
 pub mod host;
 pub mod laws;

@@ -1,6 +1,7 @@
 //! A host that has the square root and nothing else.
 ghost use Rattle.expression.specs.Hosts.{root_answer};
 
+use crate::function::Function;
 use crate::host::Host;
 
 /// Answers code 10 at one argument.
@@ -12,7 +13,7 @@ impl Host for RootHost {
 
     fn ask(&self, code: u8, arguments: &[f64]) -> Option<f64> {
         match arguments {
-            [x] => if code == 10 { Some(x.sqrt()) } else { None },
+            [x] if code == u8::from(Function::Sqrt) => Some(x.sqrt()),
             _ => None,
         }
     }

@@ -22,10 +22,9 @@ pub struct HostEntry {
 fn equal_arguments(a: Arguments, arguments: &[f64]) -> bool
     ensures { result ≡ same_arguments (arguments_of a) arguments.now }
 {
-    match (a, arguments) {
-        (Arguments::One(x), [p]) => x == *p,
-        (Arguments::Two(x, y), [p, q]) => (x == *p) & (y == *q),
-        _ => false,
+    match a {
+        Arguments::One(x) => [x].as_slice() == arguments,
+        Arguments::Two(x, y) => [x, y].as_slice() == arguments,
     }
 }
 
@@ -38,13 +37,10 @@ fn entry_matches(e: HostEntry, code: u8, arguments: &[f64]) -> bool
 fn first_value(entries: &[HostEntry], code: u8, arguments: &[f64]) -> Option<f64>
     ensures { result ≡ table_answer entries.now code arguments.now }
 {
-    for i in 0..entries.len() {
-        let e = entries[i];
-        if entry_matches(e, code, arguments) {
-            return Some(e.value);
-        }
-    }
-    None
+    entries
+        .iter()
+        .find(|e| entry_matches(**e, code, arguments))
+        .map(|e| e.value)
 }
 
 /// Answers by the first entry with equal code and arguments.

@@ -1,5 +1,5 @@
 //! Codes, operators and well-formed expressions.
-use expression::codes::{binary_operator, function_code, unary_operator};
+use expression::codes::function_code;
 use expression::fault::ExpressionFault;
 use expression::formed::is_well_formed;
 use expression::node::{BinaryOperator, Letters, Node, UnaryOperator};
@@ -22,10 +22,10 @@ fn codes(rt: HostRuntime) {
             & (function_code("") == Err(ExpressionFault::Malformed))
     );
     assert!(rt;
-        binary_operator('/').is_ok()
-            & binary_operator('%').is_err()
-            & unary_operator('-').is_ok()
-            & unary_operator('*').is_err()
+        BinaryOperator::try_from('/').is_ok()
+            & BinaryOperator::try_from('%').is_err()
+            & UnaryOperator::try_from('-').is_ok()
+            & UnaryOperator::try_from('*').is_err()
     );
 }
 

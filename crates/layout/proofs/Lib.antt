@@ -5,3 +5,4 @@ pub mod Rules
 pub mod Order
 pub mod Ranges
 pub mod Sameness
+pub mod Bounds

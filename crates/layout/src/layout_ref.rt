@@ -1,6 +1,6 @@
 //! A layout that a catalogue has.
-ghost use Rattle.std.specs.Prelude.{◌≡◌, ℕ, ◌<◌, length, Decides, slice_index_or};
-ghost use Rattle.layout.specs.Layouts.{Layout, Valid, AllValid, blank, at, count, strict, wide, widened, widen};
+ghost use Rattle.std.specs.Prelude.{◌≡◌, ℕ, ◌<◌, ◌≤◌, length, Decides, slice_index_or};
+ghost use Rattle.layout.specs.Layouts.{Layout, Valid, AllValid, blank, at, count, rank, strict, wide, widened, widen};
 ghost use Rattle.layout.specs.Answers.{asked, shape_of, index_of, place_in};
 
 use crate::catalogue::Catalogue;
@@ -46,7 +46,8 @@ impl<'a, C: Catalogue> Model for LayoutRef<'a, C> {
 impl<'a, C: Catalogue> LayoutRef<'a, C> {
     /// The layout with a number, if the catalogue has it.
     pub fn new(catalogue: &'a C, number: usize) -> Result<LayoutRef<'a, C>, LayoutFault>
-        ensures { result ≡ asked (λ l. l) (C.layouts catalogue.now) number }
+        ensures is { result ≡ asked (λ l. l) (C.layouts catalogue.now) number }
+        ensures valid { AllValid (C.layouts catalogue.now) }
     {
         // The count says that every layout is valid.
         let _ = catalogue.count();
@@ -56,6 +57,22 @@ impl<'a, C: Catalogue> LayoutRef<'a, C> {
             number,
             shape,
         })
+    }
+
+    /// How many places it has.
+    pub fn count(&self) -> usize
+        ensures is { result ≡ count self.now }
+        ensures valid { Valid self.now }
+    {
+        self.shape.count
+    }
+
+    /// How many axes it has.
+    pub fn rank(&self) -> usize
+        ensures is { result ≡ rank self.now }
+        ensures few { result ≤ 4 }
+    {
+        self.shape.rank
     }
 
     /// The kind, rank, lengths and place count.
@@ -68,21 +85,24 @@ impl<'a, C: Catalogue> LayoutRef<'a, C> {
 
     /// The place with a number, if there is one.
     pub fn place(&self, number: usize) -> Option<Index>
-        ensures { result ≡ place_in self.now number }
+        ensures is { result ≡ place_in self.now number }
+        ensures valid { Valid self.now }
     {
         self.catalogue.place(self.number, number)
     }
 
     /// The place with a number; four zeros where there is none.
     pub fn place_or_zeros(&self, number: usize) -> Index
-        ensures { result ≡ index_of (at self.now number) }
+        ensures is { result ≡ index_of (at self.now number) }
+        ensures valid { Valid self.now }
     {
         self.place(number).unwrap_or([0, 0, 0, 0])
     }
 
     /// The number of an index, looked up strictly.
     pub fn number(&self, index: Index) -> Option<usize>
-        ensures { result ≡ strict self.now index }
+        ensures is { result ≡ strict self.now index }
+        ensures valid { Valid self.now }
     {
         match self.catalogue.number(self.number, index) {
             Ok(number) => number,
@@ -113,7 +133,7 @@ impl<'a, C: Catalogue> LayoutRef<'a, C> {
     fn same_places(&self, other: &LayoutRef<C>) -> bool
         ensures { Decides result ((k : ℕ) → k < count self.now → place_in self.now k ≡ place_in other.now k) }
     {
-        (0..self.shape().count).all(|k| self.same_place(other, k))
+        (0..self.count()).all(|k| self.same_place(other, k))
     }
 
     /// Whether kind, shape and places are the same as another's.

@@ -1,11 +1,9 @@
 -- One pass over two rows of places that ascend.
-use Rattle.std.proofs.Common.{◌≡◌, ℕ, zero, suc, ◌+◌, ◌-◌, ◌<◌, ◌≤◌, Bool, true, false, cond, not, eqb, map, take, pos, nat_abs, Decides, sym, refl, ap, ◌∙◌, subst, inl, inr, arith}
-use Rattle.std.proofs.lemmas.List.{take-map}
+use Rattle.std.proofs.Common.{◌≡◌, ℕ, zero, suc, ◌+◌, ◌-◌, ◌<◌, ◌≤◌, Bool, true, false, cond, eqb, take, Decides, sym, refl, ap, ◌∙◌, subst, inl, inr, arith}
 use Rattle.std.proofs.lemmas.Bool.{cases_Bool, cases_lt, eqb-true, eq-eqb, and_parts, and_from, or_cases, or_left, or_right, true≢false, false≢true}
 use Rattle.std.proofs.lemmas.Bool.Decides.{same_from_decides}
 use Rattle.layout.specs.Places.{Place, Agree, entries}
 use Rattle.layout.specs.Layouts.{Layout, Valid, count, rank, at}
-use Rattle.layout.specs.Answers.{index_of}
 use Rattle.layout.proofs.Finding.{same_true}
 use Rattle.grouping.specs.Groups.{Grouped, changes}
 use Rattle.grouping.specs.Keys.{key, agrees, Covered}
@@ -55,15 +53,6 @@ pub record Reached (m : ℕ) (l r : Layout) (i j : ℕ) : Type 0 where
   pub under : (y : ℕ) → y ≤ j → (x : ℕ) × (x < i) × Agree m (at l x) (at r y)
 
 module _ (m : ℕ) (l r : Layout) where
-  pub reached_first : 1 ≤ count r → Agree m (at l 0) (at r 0) → Reached m l r 1 0
-  reached_first s e = record {
-    some = omega arith;
-    there = omega arith;
-    last = e;
-    over = λ x h. (0, omega arith, let z : x ≡ 0 = omega arith in rw z e);
-    under = λ y h. (0, omega arith, let z : y ≡ 0 = omega arith in rw z e);
-  }
-
   pub reached_more : (i j k : ℕ) → Reached m l r i j → j ≤ k → k ≤ j + 1 → k < count r → Agree m (at l i) (at r k) → Reached m l r (i + 1) k
   reached_more i j k h low high there e = record {
     some = omega arith;
@@ -163,18 +152,3 @@ covered_by m n s v r e d = same_from_decides r (covered m s v) d (covered_decide
 
 pub covered_by_other : (m n : ℕ) (s v : Layout) (r : Bool) → m ≡ n → Decides r (Covered m v s) → r ≡ covered n s v
 covered_by_other m n s v r e d = covered_by m n s v r e (λ h. other_way m v s (d.0 h), λ c. d.1 (other_way m s v c))
-
--- places agree as their indices do
-index_agree : (m : ℕ) (p q : Place) → take m (index_of p) ≡ take m (index_of q) → Agree m p q
-index_agree m p q e = take-map nat_abs m (index_of p) ∙ ap (map nat_abs) e ∙ sym (take-map nat_abs m (index_of q))
-
-agree_index : (m : ℕ) (p q : Place) → Agree m p q → take m (index_of p) ≡ take m (index_of q)
-agree_index m p q e = take-map pos m (entries p) ∙ ap (map pos) e ∙ sym (take-map pos m (entries q))
-
--- a range begins where two places do not agree
-pub begins_cut : (m : ℕ) (p q : Place) (r : Bool) → Decides r (take m (index_of p) ≡ take m (index_of q) → ⊥) → r ≡ not (agrees m p q)
-begins_cut m p q r d =
-    elim (cases_Bool (agrees m p q)) [
-      | inl t ↦ rw t (elim (cases_Bool r) [ inl y ↦ absurd (d.0 y (agree_index m p q (agrees_true m p q t))) | inr n ↦ n ])
-      | inr f ↦ rw f (d.1 (λ e. agrees_false m p q f (index_agree m p q e)))
-    ]

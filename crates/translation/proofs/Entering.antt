@@ -1,12 +1,9 @@
 -- Entries of the index table, part by part.
-use Rattle.std.proofs.Common.{◌≡◌, ℕ, ◌+◌, ◌*◌, ◌<◌, ◌≤◌, ltb, ◌⊎◌, List, [], ◌∷◌, ◌++◌, length, get_or, ℤ, Ok, Option, sym, refl, ap, ◌∙◌, subst, inl, inr, arith, length-append}
-use Rattle.std.proofs.lemmas.List.Edits.{paste_none, paste-paste}
+use Rattle.std.proofs.Common.{◌≡◌, ℕ, ◌+◌, ◌*◌, ◌≤◌, List, [], ◌∷◌, ◌++◌, length, ℤ, Option, sym, refl, ap, ◌∙◌, subst, arith, length-append}
+use Rattle.std.proofs.lemmas.List.Edits.{paste-paste}
 use Rattle.std.proofs.lemmas.List.FromFn.{length-map-range_with_len}
-use Rattle.std.proofs.lemmas.Bool.{lt-ltb, cond-true}
 use lib.Seq.{paste}
-use Rattle.layout.specs.declared.shape.Shape.{Shape}
-use Rattle.layout.specs.Layouts.{Layout, blank}
-use Rattle.layout.specs.Answers.{shape_of, shape_asked}
+use Rattle.layout.specs.Layouts.{Layout}
 use Rattle.translation.specs.declared.kinds.TranslationFrom.{TranslationFrom}
 use Rattle.translation.specs.declared.kinds.TranslationFrom.TheVariants.{DenseContraction, DiagonalContraction, SparseContraction, ElementWise, Broadcast}
 use Rattle.translation.specs.declared.kinds.TranslationTo.{TranslationTo}
@@ -14,26 +11,6 @@ use Rattle.translation.specs.declared.kinds.TranslationTo.TheVariants.{Contiguou
 use Rattle.translation.specs.Tos.{destination_entries}
 use Rattle.translation.specs.Cuts.{ranges, range_entries}
 use Rattle.translation.specs.Entries.{from_entries, to_entries, from_count, to_count}
-
-pub nothing : (d : List ℤ) (at : ℕ) (xs : List ℤ) → xs ≡ [] → (at ≡ at + length xs) × (d ≡ paste d at xs (length xs))
-nothing d at xs e =
-    let P : List ℤ → Type 0 = λ ys. (at ≡ at + length ys) × (d ≡ paste d at ys (length ys)) in
-    subst P (sym e) (omega arith, paste_none d at [])
-
-abbrev pub Without : TranslationFrom → Type 0
-Without f =
-    ((x : ℕ) × (x' : ℕ) × (f ≡ DenseContraction x x'))
-    ⊎ (((x : ℕ) × (f ≡ DiagonalContraction x)) ⊎ ((f ≡ ElementWise) ⊎ ((x : ℕ) × (x' : ℕ) × (f ≡ Broadcast x x'))))
-
-pub without : (f : TranslationFrom) (s : Layout) (v : ℕ) → Without f → from_entries f s v ≡ []
-without f s v h =
-    elim h [
-      | inl a ↦ ap (λ y. from_entries y s v) a.2
-      | inr o ↦ elim o [
-        | inl a ↦ ap (λ y. from_entries y s v) a.1
-        | inr p ↦ elim p [ inl a ↦ ap (λ y. from_entries y s v) a | inr a ↦ ap (λ y. from_entries y s v) a.2 ]
-      ]
-    ]
 
 pub destinations_long : (d : ℕ → Option ℕ) (n : ℕ) → length (destination_entries d n) ≡ n
 destinations_long d n = length-map-range_with_len _ 0 n
@@ -50,9 +27,6 @@ both_parts d e f xs ys at mid end room em ee en ef =
       ef ∙ ap (λ y. paste y mid ys (length ys)) ee ∙ ap (λ m. paste (paste d at xs (length xs)) m ys (length ys)) em
           ∙ paste-paste d at xs ys (length xs) (length ys) refl refl (omega arith) ∙ ap (paste d at (xs ++ ys)) (sym l),
     )
-
-pub shape_known : (ls : List Layout) (n : ℕ) (s : Shape) → Ok s ≡ shape_asked ls n → n < length ls → s ≡ shape_of (get_or ls n blank)
-shape_known ls n s e h = let f = e ∙ cond-true (ltb n (length ls)) _ _ (lt-ltb n (length ls) h) in cc
 
 pub listed : (to : TranslationTo) (d : ℕ → Option ℕ) (n : ℕ) (t new : List ℤ) (at end : ℕ) → to ≡ Listed → end ≡ at + n → new ≡ paste t at (destination_entries d n) n → (end ≡ at + length (to_entries to d n)) × (new ≡ paste t at (to_entries to d n) (length (to_entries to d n)))
 listed to d n t new at end e en ew =

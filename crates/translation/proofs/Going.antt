@@ -1,9 +1,8 @@
 -- Destinations, one after another.
-use Rattle.std.proofs.Common.{◌≡◌, ℕ, suc, ◌+◌, ◌-◌, ◌<◌, ◌≤◌, Bool, true, false, cond, ◌&&◌, eqb, List, length, get_or, set, ℤ, pos, Some, None, Ok, Err, Option, unwrap_or, sym, refl, ap, ◌∙◌, arith}
+use Rattle.std.proofs.Common.{◌≡◌, ℕ, suc, ◌+◌, ◌-◌, ◌<◌, ◌≤◌, Bool, true, false, ◌&&◌, eqb, List, length, get_or, set, ℤ, pos, Some, None, Err, Option, unwrap_or, sym, refl, ap, ◌∙◌, arith}
 use Rattle.std.proofs.lemmas.List.Edits.{paste_more}
 use Rattle.std.proofs.lemmas.List.FromFn.{length-map-range_with_len, get_or-map-range_with_len}
 use lib.Seq.{paste}
-use Rattle.translation.specs.declared.kinds.TranslationTo.TheVariants.{Contiguous, Listed}
 use Rattle.translation.specs.Tos.{missing, follows, consecutive, placed, missing_at, unless_missing, to_of, destination_entries}
 
 pub missing_more : (d : ℕ → Option ℕ) (k n x : ℕ) → k < n → d k ≡ Some x → missing d k (n - k) ≡ missing d (k + 1) (n - (k + 1))
@@ -15,10 +14,6 @@ missing_here d k n h e = let z : n - k ≡ suc (n - (k + 1)) = omega arith in ap
 and_assoc : (x y z : Bool) → (x && (y && z)) ≡ ((x && y) && z)
 and_assoc true y z = refl
 and_assoc false y z = refl
-
-and_true : (x : Bool) → (x && true) ≡ x
-and_true true = refl
-and_true false = refl
 
 -- the first k of n destinations are found, from `first` to `last`, one after the other or not
 pub record Going (d : ℕ → Option ℕ) (n k first last : ℕ) (together : Bool) : Type 0 where
@@ -66,14 +61,6 @@ module _ (d : ℕ → Option ℕ) (n : ℕ) where
 
     pub going_none : k < n → d k ≡ None → Err k ≡ to_of d n
     going_none h e = let f = g.none_yet ∙ missing_here d k n h e in ap (λ o. unless_missing o (placed (consecutive d 0 (n - 1)) (d 0) n)) (sym f)
-
-    pub going_end : k ≡ n → Ok (cond together (Contiguous first (first + n)) Listed) ≡ to_of d n
-    going_end e =
-        let z : n - k ≡ 0 = omega arith in
-        let f : missing d 0 n ≡ None = g.none_yet ∙ ap (missing d k) z in
-        let c : consecutive d 0 (n - 1) ≡ together = g.so_far ∙ ap (λ j. together && consecutive d (k - 1) j) z ∙ and_true together in
-        let b = g.begun in
-        ap (λ o. Ok (placed together o n)) (sym b) ∙ ap (λ x. Ok (placed x (d 0) n)) (sym c) ∙ ap (λ o. unless_missing o (placed (consecutive d 0 (n - 1)) (d 0) n)) (sym f)
 
 -- a destination is written
 pub destination_written : (d : ℕ → Option ℕ) (n : ℕ) (t table new : List ℤ) (at k : ℕ) → table ≡ paste t at (destination_entries d n) k → k < n → at + n ≤ length t → new ≡ set table (at + k) (pos (unwrap_or (d k) 0)) → new ≡ paste t at (destination_entries d n) (k + 1)

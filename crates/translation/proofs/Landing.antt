@@ -1,13 +1,14 @@
 -- Lookups of a start plus a place.
-use Rattle.std.proofs.Common.{◌≡◌, ℕ, zero, suc, ◌<◌, ◌≤◌, Bool, ltb, List, [], ◌∷◌, length, get_or, ℤ, pos, ◌≤ℤ◌, ◌<ℤ◌, IfSome, Some, None, Option, sym, refl, ap, ◌∙◌, subst, inl, inr, arith}
-use Rattle.std.proofs.lemmas.Bool.{cases_Bool, lt-ltb, and_from, cond-true}
+use Rattle.std.proofs.Common.{◌≡◌, ℕ, zero, suc, ◌<◌, ◌≤◌, ltb, List, [], ◌∷◌, length, get_or, ℤ, pos, ◌≤ℤ◌, ◌<ℤ◌, IfSome, Some, None, Option, sym, refl, ap, ◌∙◌, subst, inl, inr, arith}
+use Rattle.std.proofs.lemmas.Bool.{cases_Bool, cases_lt}
+use Rattle.std.proofs.lemmas.List.{get_or_past}
 use Rattle.std.proofs.lemmas.Int.{ints}
 use Rattle.std.specs.Option.{option_map}
 use Rattle.layout.specs.Places.{Place, origin, axis, same}
-use Rattle.layout.specs.Layouts.{Layout, Valid, blank, count, rank, at, below, given, inside, number, number_of, strict}
-use Rattle.layout.specs.Answers.{index_of, exists, place_asked}
+use Rattle.layout.specs.Layouts.{Layout, Valid, count, rank, at, below, given, inside, number, number_of, strict}
+use Rattle.layout.specs.Answers.{index_of}
 use Rattle.layout.proofs.Finding.{inside_says, strict_outside, same_true}
-use Rattle.grouping.proofs.Keyed.{Small, axis_small}
+use Rattle.grouping.proofs.Keyed.{Small, axis_small, small_at}
 use Rattle.translation.specs.Tos.{shift, Told}
 
 -- in a valid layout a lookup goes by what is inside the shape
@@ -47,6 +48,14 @@ index_high p s (suc (suc zero)) = let h = s.c< in omega (arith, ints)
 index_high p s (suc (suc (suc zero))) = let h = s.d< in omega (arith, ints)
 index_high p s (suc (suc (suc (suc i)))) = omega (arith, ints)
 
+-- the entries of any place are small, those of the zeros past the last one too
+pub small_any : (l : Layout) → Valid l → (k : ℕ) → Small (at l k)
+small_any l v k =
+    elim (cases_lt k (count l)) [
+      | inl h ↦ small_at l v k h
+      | inr h ↦ subst Small (sym (get_or_past l.places k origin h)) (record { a< = omega arith; b< = omega arith; c< = omega arith; d< = omega arith })
+    ]
+
 -- what is told of a start plus a place is told of the shift
 pub lands : (t : Layout) (r start : List ℤ) (p : Place) → Valid t → Told r start (index_of p) 0 → Told r start (index_of p) 1 → Told r start (index_of p) 2 → Told r start (index_of p) 3 → strict t r ≡ strict t (shift start p)
 lands t r start p v a b c d = told_alike t r (shift start p) v by where
@@ -78,7 +87,3 @@ strict_within l x v = by (strict l x) refl where
   by : (o : Option ℕ) → strict l x ≡ o → IfSome o (λ n. n < 65536)
   by None e = tt
   by (Some n) e = by' _ n e
-
--- the answers of a catalogue at numbers that exist
-pub place_known : (ls : List Layout) (n k : ℕ) (r : List ℤ × Bool) → r ≡ place_asked ls n k → n < length ls → k < count (get_or ls n blank) → r.0 ≡ index_of (at (get_or ls n blank) k)
-place_known ls n k r e h g = ap (λ (z : List ℤ × Bool). z.0) (e ∙ cond-true (exists ls n k) _ _ (and_from _ _ (lt-ltb n (length ls) h) (lt-ltb k (count (get_or ls n blank)) g)))

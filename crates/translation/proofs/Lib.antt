@@ -1,5 +1,4 @@
 pub mod Fronts
-pub mod Bounds
 pub mod Covering
 pub mod Ranging
 pub mod Landing

@@ -1,7 +1,6 @@
 -- The single outcome of a translation.
 use Rattle.std.specs.Prelude.{ℕ, min, Bool, true, cond, ◌&&◌, List, length, ℤ, Some, None, Ok, Err, Option, Result, ◌==◌, nat_lt, slice_index_or}
 use Rattle.layout.specs.Layouts.{Layout, blank, count, rank}
-use Rattle.layout.specs.declared.shape.Shape.{Shape}
 use Rattle.layout.specs.Answers.{shape_of}
 use Rattle.translation.specs.declared.kinds.TranslationFrom.{TranslationFrom}
 use Rattle.translation.specs.declared.kinds.TranslationFrom.TheVariants.{DenseContraction, DiagonalContraction, SparseContraction, ElementWise, Broadcast}
@@ -35,9 +34,6 @@ translating s v x t = cond (start_refused (rank v) x (rank t)) (Err Start) (tran
 
 abbrev pub known : List Layout → ℕ → Bool
 known ls n = nat_lt n (length ls)
-
-abbrev pub measured : List Layout → ℕ → Result Shape TranslationFault
-measured ls n = cond (known ls n) (Ok (shape_of (slice_index_or ls n blank))) (Err Unknown)
 
 -- refusal 1 before all else
 abbrev pub translated : List Layout → ℕ → ℕ → List ℤ → ℕ → Result Translation TranslationFault

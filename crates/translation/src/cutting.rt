@@ -25,11 +25,9 @@ impl Cutting {
         ensures answer { Decides result (Begins self.old.axes self.old.last place) }
         ensures after { (self.new.axes ≡ self.old.axes) × (self.new.last ≡ Some place) }
     {
-        let begins = match self.last {
+        match self.last.replace(place) {
             Some(last) => !agree(self.axes, last, place),
             None => true,
-        };
-        self.last = Some(place);
-        begins
+        }
     }
 }

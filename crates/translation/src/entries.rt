@@ -1,16 +1,15 @@
 //! A translation's entries in the index table.
-ghost use Rattle.std.specs.Prelude.{◌≡◌, ℕ, ◌+◌, ◌<◌, ◌≤◌, length, nat_le, slice_index_or};
+ghost use Rattle.std.specs.Prelude.{◌≡◌, ◌+◌, ◌≤◌, length, nat_le};
 ghost use Rattle.std.proofs.Math.Seq.{paste};
-ghost use Rattle.layout.specs.Layouts.{AllValid, blank, count as place_count};
+ghost use Rattle.layout.specs.Layouts.{rank, count as place_count};
 ghost use Rattle.translation.specs.Tos.{destination as destination_of};
 ghost use Rattle.translation.specs.Entries.{from_entries, to_entries, data_layout, from_count, to_count, data_count, entries_of, appending, appended};
 
 use crate::kinds::{Translation, TranslationFault, TranslationFrom, TranslationTo};
 use crate::ranges::{count_ranges, write_ranges};
+use crate::route::{Route, Routed};
 use crate::target::write_destinations;
-use crate::translate::measured;
 use layout::catalogue::Catalogue;
-use layout::index::Index;
 
 impl Translation {
     /// How many entries the ranges have, so where the listed destinations begin.
@@ -18,17 +17,8 @@ impl Translation {
         ensures { result ≡ from_count self.from self.elements }
     {
         match self.from {
-            TranslationFrom::SparseContraction { contract_by: _ } => 2 * self.elements as usize,
-            TranslationFrom::DenseContraction {
-                contract_by: _,
-                contract_len: _,
-            }
-            | TranslationFrom::DiagonalContraction { contract_by: _ }
-            | TranslationFrom::ElementWise
-            | TranslationFrom::Broadcast {
-                broadcast_by: _,
-                broadcast_len: _,
-            } => 0,
+            TranslationFrom::SparseContraction { .. } => 2 * self.elements as usize,
+            _ => 0,
         }
     }
 
@@ -36,104 +26,7 @@ impl Translation {
     pub fn data_len(self) -> usize
         ensures { result ≡ data_count self }
     {
-        let ranges = self.get_to_index_in_data_layout();
-        match self.to {
-            TranslationTo::Contiguous { start: _, end: _ } => ranges,
-            TranslationTo::Listed => ranges + self.elements as usize,
-        }
-    }
-}
-
-/// Appends the ranges, where there are any, and answers where the entries end.
-fn write_from<C: Catalogue>(
-    catalogue: &C,
-    from: TranslationFrom,
-    via_rank: usize,
-    source: usize,
-    count: usize,
-    table: &mut [i32],
-    at: usize,
-) -> usize
-    requires known { source < length (C.layouts catalogue.now) }
-    requires counted { count ≡ place_count (slice_index_or (C.layouts catalogue.now) source blank) }
-    requires some { 1 ≤ count }
-    requires few { count ≤ 65536 }
-    requires room { at + length (from_entries from (slice_index_or (C.layouts catalogue.now) source blank) via_rank) ≤ length table.old }
-    ensures end { result ≡ at + length (from_entries from (slice_index_or (C.layouts catalogue.now) source blank) via_rank) }
-    ensures written { table.new ≡ paste table.old at (from_entries from (slice_index_or (C.layouts catalogue.now) source blank) via_rank) (length (from_entries from (slice_index_or (C.layouts catalogue.now) source blank) via_rank)) }
-{
-    match from {
-        TranslationFrom::SparseContraction { contract_by: _ } => write_ranges(
-            catalogue, via_rank, source, count, table, at,
-        ),
-        TranslationFrom::DenseContraction {
-            contract_by: _,
-            contract_len: _,
-        }
-        | TranslationFrom::DiagonalContraction { contract_by: _ }
-        | TranslationFrom::ElementWise
-        | TranslationFrom::Broadcast {
-            broadcast_by: _,
-            broadcast_len: _,
-        } => at,
-    }
-}
-
-/// Appends the destinations, where they are listed, and answers where the entries end.
-fn write_to<C: Catalogue>(
-    catalogue: &C,
-    to: TranslationTo,
-    via: usize,
-    count: usize,
-    start: Index,
-    target: usize,
-    table: &mut [i32],
-    at: usize,
-) -> usize
-    requires valid { AllValid (C.layouts catalogue.now) }
-    requires via { via < length (C.layouts catalogue.now) }
-    requires target { target < length (C.layouts catalogue.now) }
-    requires counted { count ≡ place_count (slice_index_or (C.layouts catalogue.now) via blank) }
-    requires room { at + length (to_entries to (destination_of (slice_index_or (C.layouts catalogue.now) via blank) start (slice_index_or (C.layouts catalogue.now) target blank)) count) ≤ length table.old }
-    ensures end { result ≡ at + length (to_entries to (destination_of (slice_index_or (C.layouts catalogue.now) via blank) start (slice_index_or (C.layouts catalogue.now) target blank)) count) }
-    ensures written { table.new ≡ paste table.old at (to_entries to (destination_of (slice_index_or (C.layouts catalogue.now) via blank) start (slice_index_or (C.layouts catalogue.now) target blank)) count) (length (to_entries to (destination_of (slice_index_or (C.layouts catalogue.now) via blank) start (slice_index_or (C.layouts catalogue.now) target blank)) count)) }
-{
-    match to {
-        TranslationTo::Contiguous { start: _, end: _ } => at,
-        TranslationTo::Listed => write_destinations(
-            catalogue, via, count, start, target, table, at,
-        ),
-    }
-}
-
-/// How many entries the ranges have.
-fn from_len<C: Catalogue>(
-    catalogue: &C,
-    from: TranslationFrom,
-    via_rank: usize,
-    source: usize,
-    count: usize,
-) -> usize
-    requires known { source < length (C.layouts catalogue.now) }
-    requires counted { count ≡ place_count (slice_index_or (C.layouts catalogue.now) source blank) }
-    requires some { 1 ≤ count }
-    requires few { count ≤ 65536 }
-    ensures is { result ≡ length (from_entries from (slice_index_or (C.layouts catalogue.now) source blank) via_rank) }
-    ensures bound { result ≤ 131072 }
-{
-    match from {
-        TranslationFrom::SparseContraction { contract_by: _ } => 2
-            * count_ranges(catalogue, via_rank, source, count),
-        TranslationFrom::DenseContraction {
-            contract_by: _,
-            contract_len: _,
-        }
-        | TranslationFrom::DiagonalContraction { contract_by: _ }
-        | TranslationFrom::ElementWise
-        | TranslationFrom::Broadcast {
-            broadcast_by: _,
-            broadcast_len: _,
-        } => 0,
+        self.get_to_index_in_data_layout() + to_len(self.to, self.elements as usize)
     }
 }
 
@@ -143,55 +36,75 @@ fn to_len(to: TranslationTo, count: usize) -> usize
     ensures bound { result ≤ count }
 {
     match to {
-        TranslationTo::Contiguous { start: _, end: _ } => 0,
+        TranslationTo::Contiguous { .. } => 0,
         TranslationTo::Listed => count,
+    }
+}
+
+/// How many entries the ranges have.
+fn from_len<C: Catalogue>(from: TranslationFrom, block: &Routed<C>) -> usize
+    ensures is { result ≡ length (from_entries from block.now.source (rank block.now.via)) }
+    ensures bound { result ≤ 131072 }
+{
+    match from {
+        TranslationFrom::SparseContraction { .. } => 2
+            * count_ranges(block.via.rank(), &block.source),
+        _ => 0,
+    }
+}
+
+/// Appends the ranges, where there are any, and answers where the entries end.
+fn write_from<C: Catalogue>(
+    from: TranslationFrom,
+    block: &Routed<C>,
+    table: &mut [i32],
+    at: usize,
+) -> usize
+    requires { at + length (from_entries from block.now.source (rank block.now.via)) ≤ length table.old }
+    ensures end { result ≡ at + length (from_entries from block.now.source (rank block.now.via)) }
+    ensures written { table.new ≡ paste table.old at (from_entries from block.now.source (rank block.now.via)) (length (from_entries from block.now.source (rank block.now.via))) }
+{
+    match from {
+        TranslationFrom::SparseContraction { .. } => write_ranges(
+            block.via.rank(),
+            &block.source,
+            table,
+            at,
+        ),
+        _ => at,
+    }
+}
+
+/// Appends the destinations, where they are listed, and answers where the entries end.
+fn write_to<C: Catalogue>(
+    to: TranslationTo,
+    block: &Routed<C>,
+    table: &mut [i32],
+    at: usize,
+) -> usize
+    requires { at + length (to_entries to (destination_of block.now.via block.now.start block.now.target) (place_count block.now.via)) ≤ length table.old }
+    ensures end { result ≡ at + length (to_entries to (destination_of block.now.via block.now.start block.now.target) (place_count block.now.via)) }
+    ensures written { table.new ≡ paste table.old at (to_entries to (destination_of block.now.via block.now.start block.now.target) (place_count block.now.via)) (length (to_entries to (destination_of block.now.via block.now.start block.now.target) (place_count block.now.via))) }
+{
+    match to {
+        TranslationTo::Contiguous { .. } => at,
+        TranslationTo::Listed => write_destinations(block, table, at),
     }
 }
 
 /// Appends each range as start and end, then each listed destination, and answers where the entries end.
 fn write_entries<C: Catalogue>(
-    catalogue: &C,
     translation: Translation,
-    source: usize,
-    via: usize,
-    start: Index,
-    target: usize,
+    block: &Routed<C>,
     table: &mut [i32],
     at: usize,
 ) -> usize
-    requires valid { AllValid (C.layouts catalogue.now) }
-    requires source { source < length (C.layouts catalogue.now) }
-    requires via { via < length (C.layouts catalogue.now) }
-    requires target { target < length (C.layouts catalogue.now) }
-    requires room { at + length (data_layout translation (slice_index_or (C.layouts catalogue.now) source blank) (slice_index_or (C.layouts catalogue.now) via blank) start (slice_index_or (C.layouts catalogue.now) target blank)) ≤ length table.old }
-    ensures end { result ≡ at + length (data_layout translation (slice_index_or (C.layouts catalogue.now) source blank) (slice_index_or (C.layouts catalogue.now) via blank) start (slice_index_or (C.layouts catalogue.now) target blank)) }
-    ensures written { table.new ≡ paste table.old at (data_layout translation (slice_index_or (C.layouts catalogue.now) source blank) (slice_index_or (C.layouts catalogue.now) via blank) start (slice_index_or (C.layouts catalogue.now) target blank)) (length (data_layout translation (slice_index_or (C.layouts catalogue.now) source blank) (slice_index_or (C.layouts catalogue.now) via blank) start (slice_index_or (C.layouts catalogue.now) target blank))) }
+    requires { at + length (data_layout translation block.now.source block.now.via block.now.start block.now.target) ≤ length table.old }
+    ensures end { result ≡ at + length (data_layout translation block.now.source block.now.via block.now.start block.now.target) }
+    ensures written { table.new ≡ paste table.old at (data_layout translation block.now.source block.now.via block.now.start block.now.target) (length (data_layout translation block.now.source block.now.via block.now.start block.now.target)) }
 {
-    let Ok(s) = catalogue.shape(source) else {
-        return at;
-    };
-    let Ok(v) = catalogue.shape(via) else {
-        return at;
-    };
-    let listed = write_from(
-        catalogue,
-        translation.from,
-        v.rank,
-        source,
-        s.count,
-        table,
-        at,
-    );
-    write_to(
-        catalogue,
-        translation.to,
-        via,
-        v.count,
-        start,
-        target,
-        table,
-        listed,
-    )
+    let listed = write_from(translation.from, block, table, at);
+    write_to(translation.to, block, table, listed)
 }
 
 /// Whether a table of a length has room for some entries at a position.
@@ -206,32 +119,17 @@ pub fn has_room(length: usize, at: usize, need: usize) -> bool
 pub fn to_data_layout<C: Catalogue>(
     catalogue: &C,
     translation: Translation,
-    source: usize,
-    via: usize,
-    start: Index,
-    target: usize,
+    route: Route,
     table: &mut [i32],
     at: usize,
 ) -> Result<usize, TranslationFault>
-    ensures answer { result ≡ appending (C.layouts catalogue.now) translation source via start target (length table.old) at }
-    ensures written { table.new ≡ appended result table.old at (entries_of (C.layouts catalogue.now) translation source via start target) }
+    ensures answer { result ≡ appending (C.layouts catalogue.now) translation route.source route.via route.start route.target (length table.old) at }
+    ensures written { table.new ≡ appended result table.old at (entries_of (C.layouts catalogue.now) translation route.source route.via route.start route.target) }
 {
-    let s = measured(catalogue, source)?;
-    let v = measured(catalogue, via)?;
-    let _ = measured(catalogue, target)?;
-    let need = from_len(catalogue, translation.from, v.rank, source, s.count)
-        + to_len(translation.to, v.count);
+    let block = route.in_catalogue(catalogue)?;
+    let need = from_len(translation.from, &block) + to_len(translation.to, block.via.count());
     if !has_room(table.len(), at, need) {
         return Err(TranslationFault::Short);
     }
-    Ok(write_entries(
-        catalogue,
-        translation,
-        source,
-        via,
-        start,
-        target,
-        table,
-        at,
-    ))
+    Ok(write_entries(translation, &block, table, at))
 }

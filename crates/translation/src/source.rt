@@ -1,17 +1,20 @@
 //! What is made of a block's source.
-ghost use Rattle.std.specs.Prelude.{◌≡◌, ℕ, ◌*◌, ◌<◌, ◌≤◌, Some, MatchOption, slice_index};
+ghost use Rattle.std.specs.Prelude.{◌≡◌, ◌<◌, ◌≤◌, IfSome};
+ghost use Rattle.layout.specs.Layouts.{rank};
+ghost use Rattle.layout.specs.Answers.{shape_of};
 ghost use Rattle.grouping.specs.Keys.{tail_size as tail_size_rule};
-ghost use Rattle.translation.specs.Froms.{contracted, taken_up, spread, widening, from_of, elements_of};
+ghost use Rattle.translation.specs.Froms.{contracted, taken_up, spread, from_of, Long};
 
 use crate::kinds::TranslationFrom;
+use layout::catalogue::Catalogue;
 use layout::kind::LayoutKind;
-use layout::shape::Shape;
+use layout::layout_ref::LayoutRef;
 
 /// The product of the axes past the first `m`.
-fn tail_size(n: [usize; 4], m: usize) -> usize
-    requires { (i : ℕ) → slice_index n i ≤ 4096 }
-    ensures { result ≡ tail_size_rule m n }
+fn tail_size<C: Catalogue>(layout: &LayoutRef<C>, m: usize) -> usize
+    ensures { result ≡ tail_size_rule m (shape_of layout.now).lengths }
 {
+    let n = layout.shape().lengths;
     match m {
         0 => n[1] * n[2] * n[3] * n[0],
         1 => n[3] * n[2] * n[1],
@@ -21,28 +24,20 @@ fn tail_size(n: [usize; 4], m: usize) -> usize
     }
 }
 
-/// The length of the axes of a diagonal shape.
-fn diagonal_length(shape: Shape) -> usize
-    requires { (i : ℕ) → slice_index shape.lengths i ≤ 4096 }
-    ensures { result ≡ slice_index shape.lengths 0 }
+fn contraction<C: Catalogue>(source: &LayoutRef<C>, via_rank: usize) -> TranslationFrom
+    requires { via_rank < rank source.now }
+    ensures { result ≡ contracted source.now.kind (shape_of source.now) via_rank }
 {
-    shape.lengths[0]
-}
-
-fn contraction(source: Shape, via_rank: usize) -> TranslationFrom
-    requires lengths { (i : ℕ) → slice_index source.lengths i ≤ 4096 }
-    requires higher { via_rank < source.rank }
-    ensures { result ≡ contracted source.kind source via_rank }
-{
-    let contract_by = source.rank - via_rank;
-    match source.kind {
+    let shape = source.shape();
+    let contract_by = shape.rank - via_rank;
+    match shape.kind {
         LayoutKind::Dense => TranslationFrom::DenseContraction {
             contract_by,
-            contract_len: tail_size(source.lengths, via_rank),
+            contract_len: tail_size(source, via_rank),
         },
         LayoutKind::Diagonal if via_rank == 0 => TranslationFrom::DenseContraction {
             contract_by,
-            contract_len: diagonal_length(source),
+            contract_len: shape.lengths[0],
         },
         LayoutKind::Diagonal => TranslationFrom::DiagonalContraction { contract_by },
         LayoutKind::Sparse => TranslationFrom::SparseContraction { contract_by },
@@ -63,39 +58,46 @@ fn axes_taken(source: LayoutKind, via: LayoutKind, rank: usize) -> usize
     }
 }
 
-fn broadcast(broadcast_by: usize, source_rank: usize, via: Shape) -> Option<TranslationFrom>
-    requires { (i : ℕ) → slice_index via.lengths i ≤ 4096 }
-    ensures { result ≡ spread via.kind broadcast_by source_rank via }
+fn broadcast<C: Catalogue>(
+    broadcast_by: usize,
+    source_rank: usize,
+    via: &LayoutRef<C>,
+) -> Option<TranslationFrom>
+    ensures { result ≡ spread via.now.kind broadcast_by source_rank (shape_of via.now) }
 {
-    match via.kind {
+    let shape = via.shape();
+    match shape.kind {
         LayoutKind::Dense => Some(TranslationFrom::Broadcast {
             broadcast_by,
-            broadcast_len: tail_size(via.lengths, source_rank),
+            broadcast_len: tail_size(via, source_rank),
         }),
         LayoutKind::Diagonal => Some(TranslationFrom::Broadcast {
             broadcast_by,
-            broadcast_len: diagonal_length(via),
+            broadcast_len: shape.lengths[0],
         }),
         LayoutKind::Sparse => None,
     }
 }
 
-/// How a source of one shape makes the elements of a via of another, or none.
-pub(crate) fn from_shapes(source: Shape, via: Shape) -> Option<TranslationFrom>
-    requires source { (i : ℕ) → slice_index source.lengths i ≤ 4096 }
-    requires via { (i : ℕ) → slice_index via.lengths i ≤ 4096 }
-    requires rank { source.rank ≤ 4 }
-    ensures { result ≡ from_of source via }
+/// How a source makes the elements of a via by their shapes, or none.
+pub(crate) fn from_shapes<C: Catalogue>(
+    source: &LayoutRef<C>,
+    via: &LayoutRef<C>,
+) -> Option<TranslationFrom>
+    ensures is { result ≡ from_of (shape_of source.now) (shape_of via.now) }
+    ensures long { IfSome result Long }
 {
-    if via.rank < source.rank {
-        return Some(contraction(source, via.rank));
+    let s = source.shape();
+    let v = via.shape();
+    if v.rank < s.rank {
+        return Some(contraction(source, v.rank));
     }
-    let taken = axes_taken(source.kind, via.kind, source.rank);
-    if via.rank < taken {
+    let taken = axes_taken(s.kind, v.kind, s.rank);
+    if v.rank < taken {
         None
-    } else if via.rank == taken {
+    } else if v.rank == taken {
         Some(TranslationFrom::ElementWise)
     } else {
-        broadcast(via.rank - taken, source.rank, via)
+        broadcast(v.rank - taken, s.rank, via)
     }
 }

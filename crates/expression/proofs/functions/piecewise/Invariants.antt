@@ -1,6 +1,9 @@
-use Rattle.std.proofs.Common.{◌≡◌, ◌*◌, drop}
+use Rattle.std.proofs.Common.{◌≡◌, ◌≤◌, length}
 use Rattle.expression.specs.Values as values
 use Rattle.expression.proofs.functions.piecewise.Given as goal
 
-abbrev pub invariant-loop-i : goal.invariant-loop-i
-invariant-loop-i l = values.piecewise (drop (2 * l.i) l.arguments) ≡ values.piecewise l.arguments
+abbrev pub invariant-loop-rest : goal.invariant-loop-rest
+invariant-loop-rest l = (1 ≤ length l.rest) × (values.piecewise l.rest ≡ values.piecewise l.arguments)
+
+abbrev pub decreases-loop-rest : goal.decreases-loop-rest
+decreases-loop-rest l = length l.rest
