@@ -21,12 +21,10 @@ fn table_entry(number: Option<usize>) -> i32
     requires { IfSome number (λ n. n < 65536) }
     ensures { result ≡ entry_of number }
 {
-    number.map_or(
-        ABSENT,
-        |n|
-            requires { n < 65536 }
-        { n as i32 },
-    )
+    match number {
+        Some(n) => n as i32,
+        None => ABSENT,
+    }
 }
 
 /// The entry of source place `k`.
@@ -78,7 +76,7 @@ pub fn to_binary_data_layout<C: Catalogue>(
 {
     let layout = LayoutRef::new(c, layout)?;
     let source = LayoutRef::new(c, source)?;
-    let count = source.shape().count;
+    let count = source.count();
     if !has_room(table.len(), at, count) {
         return Err(NamesFault::NoRoom);
     }
