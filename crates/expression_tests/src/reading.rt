@@ -10,7 +10,6 @@ use names::variable::{Class, VariableRecord};
 use std::process::Abort;
 use std::test::Fail;
 use table::record::LayoutRecord;
-use table::rules::check_records;
 use table::table::Table;
 
 fn layout(kind: LayoutKind, rank: usize, lengths: [usize; 4], count: usize) -> LayoutRecord {
@@ -121,10 +120,9 @@ fn other_names(rt: &impl Abort, t: &Table) {
 fn names(rt: HostRuntime) -> Result<(), Fail> {
     let records = layouts();
     let pool = POOL;
-    if check_records(&records, &pool).is_err() {
+    let Ok(t) = Table::try_new(&records, &pool) else {
         return Err(Fail::new("a faulty record"));
-    }
-    let t = Table::new(&records, &pool);
+    };
     dense_names(&rt, &t);
     other_names(&rt, &t);
     // outside the shape: place 3 of dense 4, in a layout of 3
@@ -169,10 +167,9 @@ fn refused(
 fn refusals(rt: HostRuntime) -> Result<(), Fail> {
     let records = layouts();
     let pool = POOL;
-    if check_records(&records, &pool).is_err() {
+    let Ok(t) = Table::try_new(&records, &pool) else {
         return Err(Fail::new("a faulty record"));
-    }
-    let t = Table::new(&records, &pool);
+    };
     assert!(rt;
         refused(&t, None, 1, name(8, 0, b"----"), 21)
             & refused(&t, Some(4), 1, name(4, 1, b"i---"), 21)
@@ -193,10 +190,9 @@ fn refusals(rt: HostRuntime) -> Result<(), Fail> {
 fn not_in_a_constant_block(rt: HostRuntime) -> Result<(), Fail> {
     let records = layouts();
     let pool = POOL;
-    if check_records(&records, &pool).is_err() {
+    let Ok(t) = Table::try_new(&records, &pool) else {
         return Err(Fail::new("a faulty record"));
-    }
-    let t = Table::new(&records, &pool);
+    };
     let block = letters(1, b"i---");
     let time = [name(0, 0, b"----")];
     assert!(rt; expression_fault(&t, &variables(), None, false, block, 3, &time) == Ok(()));
