@@ -16,12 +16,14 @@ mod tests {
     use layout::fault::{LayoutFault, Rule};
     use layout::find::{eq_nonzeros, find_nnz_index};
     use layout::kind::LayoutKind;
+    use layout::layout_ref::LayoutRef;
     use reader::read::read;
     use reader::record::{BlockRecord, ReaderFault};
     use std::test::Fail;
     use table::record::LayoutRecord;
     use table::rules::check_records;
     use table::table::Table;
+    use translation::route::Route;
 
     fn shape(kind: LayoutKind, rank: usize, lengths: [usize; 4]) -> GridShape {
         GridShape {
@@ -52,9 +54,8 @@ mod tests {
         let a = shape(LayoutKind::Dense, 2, [2, 3, 0, 0]);
         let b = shape(LayoutKind::Dense, 2, [1, 3, 0, 0]);
         let d = shape(LayoutKind::Diagonal, 2, [3, 3, 0, 0]);
-        let g = match Grid::new([a, b, d, a, a, a, a, a, a, a, a, a, a, a, a, a], 4) {
-            Ok(g) => g,
-            Err(_) => return Err(Fail::new("a faulty shape")),
+        let Ok(g) = Grid::new(&[a, b, d, a]) else {
+            return Err(Fail::new("a faulty shape"));
         };
         assert!(rt; g.count() == 4);
         assert!(rt; g.number(0, [1, 2, 0, 0]) == Ok(Some(5)));
@@ -65,8 +66,7 @@ mod tests {
         assert!(rt; find_nnz_index(&g, 1, [4, 1, 0, 0]) == Ok(Some(1)));
         assert!(rt; eq_nonzeros(&g, 0, 3) == Ok(true));
         assert!(rt; eq_nonzeros(&g, 0, 1) == Ok(false));
-        let (p, there) = g.place(0, 4);
-        assert!(rt; there && p == [1, 1, 0, 0]);
+        assert!(rt; g.place(0, 4) == Some([1, 1, 0, 0]));
         Ok(())
     }
 
@@ -80,10 +80,9 @@ mod tests {
         let c = record(LayoutKind::Dense, 0, [0, 0, 0, 0], 0, 0);
         let records = [a, b, c, a];
         let pool = POOL;
-        if check_records(&records, &pool).is_err() {
+        let Ok(t) = Table::try_new(&records, &pool) else {
             return Err(Fail::new("a faulty record"));
-        }
-        let t = Table::new(&records, &pool);
+        };
         assert!(rt; t.count() == 4);
         assert!(rt; t.number(0, [2, 1, 0, 0]) == Ok(Some(2)));
         assert!(rt; t.number(0, [1, 1, 0, 0]) == Ok(None));
@@ -91,10 +90,12 @@ mod tests {
         assert!(rt; t.number(2, [7, 7, 7, -7]) == Ok(Some(0)));
         assert!(rt; eq_nonzeros(&t, 0, 3) == Ok(true));
         assert!(rt; eq_nonzeros(&t, 0, 1) == Ok(false));
-        let (p, there) = t.place(0, 1);
-        assert!(rt; there && p == [0, 2, 0, 0]);
-        let (p, there) = t.place(0, 3);
-        assert!(rt; !there && p == [0, 0, 0, 0]);
+        assert!(rt; t.place(0, 1) == Some([0, 2, 0, 0]));
+        assert!(rt; t.place(0, 3) == None);
+        let Ok(first) = LayoutRef::new(&t, 0) else {
+            return Err(Fail::new("no first layout"));
+        };
+        assert!(rt; first.place_or_zeros(3) == [0, 0, 0, 0]);
         Ok(())
     }
 
@@ -184,8 +185,8 @@ mod tests {
         let a = shape(LayoutKind::Dense, 1, [1, 0, 0, 0]);
         let s = shape(LayoutKind::Sparse, 1, [1, 0, 0, 0]);
         let d = shape(LayoutKind::Diagonal, 2, [2, 3, 0, 0]);
-        let shapes = [a, s, d, a, a, a, a, a, a, a, a, a, a, a, a, a];
-        match Grid::new(shapes, 2) {
+        let shapes = [a, s, d, a, a, a, a, a, a, a, a, a, a, a, a, a, a];
+        match Grid::new(&shapes[..2]) {
             Ok(_) => return Err(Fail::new("a sparse shape was kept")),
             Err(f) => assert!(rt;
                 f == LayoutFault::Faulty {
@@ -194,7 +195,7 @@ mod tests {
                 }
             ),
         }
-        match Grid::new(shapes, 17) {
+        match Grid::new(&shapes) {
             Ok(_) => Err(Fail::new("a seventeenth shape was kept")),
             Err(f) => {
                 assert!(rt;
@@ -214,12 +215,17 @@ mod tests {
         let rows = record(LayoutKind::Sparse, 1, [3, 0, 0, 0], 6, 2);
         let records = [a, rows];
         let pool = [0, 0, 0, 2, 2, 1, 0, 2];
-        if check_records(&records, &pool).is_err() {
+        let Ok(t) = Table::try_new(&records, &pool) else {
             return Err(Fail::new("a faulty record"));
-        }
-        let t = Table::new(&records, &pool);
+        };
+        let route = Route {
+            source: 0,
+            via: 1,
+            start: [0, 0, 0, 0],
+            target: 1,
+        };
         let mut index = [0; 4];
-        let Ok(block) = BlockRecord::new(&t, 0, 1, [0, 0, 0, 0], 1, &mut index, 0) else {
+        let Ok(block) = BlockRecord::new(&t, route, &mut index, 0) else {
             return Err(Fail::new("a refused block"));
         };
         assert!(rt; index == [0, 2, 2, 3]);

@@ -11,7 +11,6 @@ use names::variable::{Class, VariableRecord};
 use std::process::Abort;
 use std::test::Fail;
 use table::record::LayoutRecord;
-use table::rules::check_records;
 use table::table::Table;
 
 fn layout(kind: LayoutKind, rank: usize, lengths: [usize; 4], count: usize) -> LayoutRecord {
@@ -139,10 +138,9 @@ fn other_names(rt: &impl Abort, t: &Table) {
 fn names(rt: HostRuntime) -> Result<(), Fail> {
     let records = layouts();
     let pool = POOL;
-    if check_records(&records, &pool).is_err() {
+    let Ok(t) = Table::try_new(&records, &pool) else {
         return Err(Fail::new("a faulty record"));
-    }
-    let t = Table::new(&records, &pool);
+    };
     dense_names(&rt, &t);
     other_names(&rt, &t);
     // outside the shape: place 3 of dense 4, in a layout of 3
@@ -190,10 +188,9 @@ fn refused(
 fn refusals(rt: HostRuntime) -> Result<(), Fail> {
     let records = layouts();
     let pool = POOL;
-    if check_records(&records, &pool).is_err() {
+    let Ok(t) = Table::try_new(&records, &pool) else {
         return Err(Fail::new("a faulty record"));
-    }
-    let t = Table::new(&records, &pool);
+    };
     assert!(rt;
         refused(&t, None, 1, name(8, 0, b"----"), 21)
             & refused(&t, Some(4), 1, name(4, 1, b"i---"), 21)
@@ -214,10 +211,9 @@ fn refusals(rt: HostRuntime) -> Result<(), Fail> {
 fn not_in_a_constant_block(rt: HostRuntime) -> Result<(), Fail> {
     let records = layouts();
     let pool = POOL;
-    if check_records(&records, &pool).is_err() {
+    let Ok(t) = Table::try_new(&records, &pool) else {
         return Err(Fail::new("a faulty record"));
-    }
-    let t = Table::new(&records, &pool);
+    };
     let block = block(1, b"i---", 3);
     let time = [name(0, 0, b"----")];
     assert!(rt; fault(&t, None, block, false, &time) == Ok(()));

@@ -13,7 +13,6 @@ use names::scope::Scope;
 use names::variable::{Class, VariableRecord};
 use std::process::Abort;
 use std::test::Fail;
-use table::rules::check_records;
 use table::table::Table;
 
 // A function of a node at the places of dense 3.
@@ -83,10 +82,9 @@ fn binary_tables(rt: &impl Abort, t: &Table) {
 fn tables(rt: HostRuntime) -> Result<(), Fail> {
     let records = layouts();
     let pool = POOL;
-    if check_records(&records, &pool).is_err() {
+    let Ok(t) = Table::try_new(&records, &pool) else {
         return Err(Fail::new("a faulty record"));
-    }
-    let t = Table::new(&records, &pool);
+    };
     values(&rt, &t)?;
     binary_tables(&rt, &t);
     Ok(())

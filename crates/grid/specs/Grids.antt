@@ -1,5 +1,5 @@
 -- What the shapes of a grid catalogue mean, and the rules on them.
-use Rattle.std.specs.Prelude.{◌≡◌, ℕ, ◌<◌, ◌≤◌, Bool, true, false, List, [], ◌∷◌, map, length, take, Some, Option, nat_le, slice_index_or}
+use Rattle.std.specs.Prelude.{◌≡◌, ℕ, ◌<◌, ◌≤◌, Bool, true, false, ◌&&◌, List, [], ◌∷◌, map, length, take, Some, Option, nat_le, slice_index_or}
 use Rattle.layout.specs.declared.fault.LayoutFault.{LayoutFault}
 use Rattle.layout.specs.declared.fault.LayoutFault.TheVariants.{Faulty}
 use Rattle.layout.specs.declared.fault.Rule.{Rule}
@@ -36,6 +36,13 @@ tests Diagonal g =
     ∷ record { kept = equal_axes (length (grid_shape g)) (grid_shape g); rule = rule.Axes }
     ∷ []
 tests Sparse g = record { kept = false; rule = rule.Kind } ∷ []
+
+-- the rules on the axes of a shape, which has at least so many
+abbrev pub axes_tests : ℕ → GridShape → List Test
+axes_tests least g =
+    record { kept = nat_le least g.rank && nat_le g.rank 4; rule = rule.Rank }
+    ∷ record { kept = axes_in_range (grid_shape g); rule = rule.Length }
+    ∷ []
 
 abbrev pub broken : GridShape → Option Rule
 broken g = first_broken (tests g.kind g)

@@ -1,8 +1,9 @@
 //! The check of shapes.
-ghost use Rattle.std.specs.Prelude.{◌≡◌, true, Some, MatchResult};
+ghost use Rattle.std.specs.Prelude.{◌≡◌, ◌≤◌, [], ◌∷◌, true, Some, MatchResult};
+ghost use Rattle.layout.specs.Places.{axis};
 ghost use Rattle.layout.specs.Rules.{in_range as in_range_rule, axes_in_range as axes_in_range_rule, first_broken, none};
 ghost use Rattle.layout.specs.declared.kind.LayoutKind.TheVariants.{Dense, Diagonal};
-ghost use Rattle.grid.specs.Grids.{sound, broken, tests};
+ghost use Rattle.grid.specs.Grids.{grid_shape, sound, broken, tests, axes_tests};
 
 use crate::radix::{is_level, product};
 use crate::shapes::GridShape;
@@ -16,22 +17,31 @@ fn in_range(n: usize) -> bool
 }
 
 /// Whether each axis has a length of 1 to 4,096.
-pub fn axes_in_range(n: [usize; 4]) -> bool
+fn axes_in_range(n: [usize; 4]) -> bool
     ensures { result ≡ axes_in_range_rule n }
 {
     in_range(n[0]) & in_range(n[1]) & in_range(n[2]) & in_range(n[3])
 }
 
-fn check_dense(g: GridShape) -> Result<(), Rule>
-    ensures { MatchResult result (λ _. none (first_broken (tests Dense g)) ≡ true) (λ rule. first_broken (tests Dense g) ≡ Some rule) }
+/// The lengths of a shape with at least `least` axes, 1 from the rank on, or the first of the rules
+/// on rank and lengths that it breaks.
+pub fn check_axes(g: GridShape, least: usize) -> Result<[usize; 4], Rule>
+    ensures { MatchResult result (λ n. (least ≤ g.rank) × (g.rank ≤ 4) × (axes_in_range_rule (grid_shape g) ≡ true) × (n ≡ axis (grid_shape g) 0 ∷ axis (grid_shape g) 1 ∷ axis (grid_shape g) 2 ∷ axis (grid_shape g) 3 ∷ [])) (λ rule. first_broken (axes_tests least g) ≡ Some rule) }
 {
-    if g.rank > 4 {
+    if g.rank < least || g.rank > 4 {
         return Err(Rule::Rank);
     }
     let n = g.padded();
     if !axes_in_range(n) {
         return Err(Rule::Length);
     }
+    Ok(n)
+}
+
+fn check_dense(g: GridShape) -> Result<(), Rule>
+    ensures { MatchResult result (λ _. none (first_broken (tests Dense g)) ≡ true) (λ rule. first_broken (tests Dense g) ≡ Some rule) }
+{
+    let n = check_axes(g, 0)?;
     if product(n) > 65536 {
         return Err(Rule::Count);
     }
@@ -41,13 +51,7 @@ fn check_dense(g: GridShape) -> Result<(), Rule>
 fn check_diagonal(g: GridShape) -> Result<(), Rule>
     ensures { MatchResult result (λ _. none (first_broken (tests Diagonal g)) ≡ true) (λ rule. first_broken (tests Diagonal g) ≡ Some rule) }
 {
-    if g.rank < 1 || g.rank > 4 {
-        return Err(Rule::Rank);
-    }
-    let n = g.padded();
-    if !axes_in_range(n) {
-        return Err(Rule::Length);
-    }
+    let n = check_axes(g, 1)?;
     if !is_level(g.rank, n) {
         return Err(Rule::Axes);
     }

@@ -1,7 +1,7 @@
 //! From the text of a design to its answers.
 ghost use Rattle.std.specs.Prelude.{◌≡◌, ◌<◌, [], length, get_or, IfOk, string_bytes, MatchResult, OnOk, slice_index_or};
 ghost use Rattle.layout.specs.Layouts.{blank, rank};
-ghost use Rattle.table.specs.Records.{AllKept, table_layouts, no_record};
+ghost use Rattle.table.specs.Records.{no_record};
 ghost use Rattle.design.specs.declared.fault.Fault.TheVariants as fault;
 ghost use Rattle.design.specs.declared.read.Design.{Design};
 ghost use Rattle.design.specs.Designs.{DesignSaid};
@@ -17,7 +17,6 @@ use layout::catalogue::Catalogue;
 use layout::fault::{LayoutFault, Rule};
 use std::alloc::{AllocError, Global};
 use table::record::LayoutRecord;
-use table::rules::check_records;
 use table::table::Table;
 
 /// How a design is answered.
@@ -126,17 +125,17 @@ fn broken_layout<'a>(lines: &[LayoutLine], layout: usize, rule: Rule) -> Fault<'
     }
 }
 
-/// Refuses the first layout that breaks a rule.
-fn check_layouts<'a>(
+/// The catalogue of the records, or the fault of the first layout that breaks a rule.
+fn catalogue_of<'a, 'x>(
     lines: &[LayoutLine],
-    records: &[LayoutRecord],
-    pool: &[u16],
-) -> Result<(), Fault<'a>>
+    records: &'x [LayoutRecord],
+    pool: &'x [u16],
+) -> Result<Table<'x>, Fault<'a>>
     requires { records.now ≡ records_of lines.now }
-    ensures { MatchResult result (λ _. AllKept pool.now records.now) (RuleTold lines.now pool.now) }
+    ensures { MatchResult result (λ t. (t.records.now ≡ records.now) × (t.pool.now ≡ pool.now)) (RuleTold lines.now pool.now) }
 {
-    match check_records(records, pool) {
-        Ok(()) => Ok(()),
+    match Table::try_new(records, pool) {
+        Ok(table) => Ok(table),
         Err(LayoutFault::Faulty { record, rule }) => Err(broken_layout(lines, record, rule)),
         Err(LayoutFault::Unknown) => unreachable(),
     }
@@ -148,10 +147,10 @@ fn answers<'a, 'x>(
     records: &'x [LayoutRecord],
     form: Form,
 ) -> Result<String, Fault<'a>>
-    requires { AllKept design.now.pool.items records.now }
-    ensures { IfOk result (λ s. Told form (table_layouts design.now.pool.items records.now) design.now.questions.items [] (string_bytes s)) }
+    requires { records.now ≡ records_of design.now.layouts.items }
+    ensures { IfOk result (λ s. Told form (layouts_of design.now) design.now.questions.items [] (string_bytes s)) }
 {
-    let table = Table::new(records, design.pool.as_slice());
+    let table = catalogue_of(design.layouts.as_slice(), records, design.pool.as_slice())?;
     let mut out = String::new(heap);
     put_answers(&mut out, heap, &table, design, form)?;
     Ok(out)
@@ -163,10 +162,5 @@ pub fn answer_design<'a>(heap: Global, text: &'a str, form: Form) -> Result<Stri
 {
     let design = read_design(heap, text)?;
     let records = collect_records(heap, design.layouts.as_slice())?;
-    check_layouts(
-        design.layouts.as_slice(),
-        records.as_slice(),
-        design.pool.as_slice(),
-    )?;
     answers(heap, &design, records.as_slice(), form)
 }

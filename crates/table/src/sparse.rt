@@ -6,7 +6,7 @@ ghost use Rattle.table.specs.Records.{sparse_layout, sparse_broken, sparse_kept,
 
 use crate::places::Places;
 use crate::record::LayoutRecord;
-use grid::rules::axes_in_range;
+use grid::rules::check_axes;
 use grid::shapes::GridShape;
 use layout::fault::Rule;
 use layout::index::{Index, entries_inside};
@@ -32,12 +32,7 @@ impl<'a> SparseLayout<'a> {
     pub(crate) fn new(pool: &'a [u16], layout: LayoutRecord) -> Result<SparseLayout<'a>, Rule>
         ensures { MatchResult result (λ s. (s.places.pool.now ≡ pool.now) × (s.places.layout ≡ layout)) (λ rule. sparse_broken pool.now layout ≡ Some rule) }
     {
-        if layout.rank < 1 || layout.rank > 4 {
-            return Err(Rule::Rank);
-        }
-        if !axes_in_range(GridShape::from(layout).padded()) {
-            return Err(Rule::Length);
-        }
+        check_axes(GridShape::from(layout), 1)?;
         if layout.count < 1 || layout.count > 65536 {
             return Err(Rule::Count);
         }

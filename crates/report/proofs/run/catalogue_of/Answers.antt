@@ -1,6 +1,6 @@
 use Rattle.std.proofs.Common.{◌≡◌, length, ap, ◌∙◌, arith}
 use lib.ListN.{length-map}
-use Rattle.report.proofs.run.check_layouts.Goals as goal
+use Rattle.report.proofs.run.catalogue_of.Goals as goal
 
 pub broken_layout-requires : goal.broken_layout-requires
 broken_layout-requires c =
