@@ -6,6 +6,8 @@ use Rattle.layout.specs.Places.{Place}
 use Rattle.layout.specs.Layouts.{Layout, at, strict, below}
 use Rattle.translation.specs.declared.kinds.TranslationTo.{TranslationTo}
 use Rattle.translation.specs.declared.kinds.TranslationTo.TheVariants.{Contiguous, Listed}
+use Rattle.translation.specs.declared.kinds.TranslationFault.{TranslationFault}
+use Rattle.translation.specs.declared.kinds.TranslationFault.TheVariants.{NoDestination}
 
 abbrev pub is_zero : ℤ → Bool
 is_zero (pos n) = n == 0
@@ -69,3 +71,8 @@ Told r start place i = (n : ℕ) → n ≤ 4096 → below n (slice_index_or r i 
 -- the entries of n destinations in the index table
 abbrev pub destination_entries : (ℕ → Option ℕ) → ℕ → List ℤ
 destination_entries d n = map (λ k. pos (unwrap_or (d k) 0)) (range_with_len 0 n)
+
+-- a via place that goes nowhere is refused with its number
+abbrev pub unless_nowhere : Result TranslationTo ℕ → Result TranslationTo TranslationFault
+unless_nowhere (Ok to) = Ok to
+unless_nowhere (Err k) = Err (NoDestination k)

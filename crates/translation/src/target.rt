@@ -3,9 +3,9 @@ ghost use Rattle.std.specs.Prelude.{◌≡◌, ◌+◌, ◌<◌, ◌≤◌, leng
 ghost use Rattle.std.proofs.Math.Seq.{paste};
 ghost use Rattle.std.specs.Option.{unwrap_or};
 ghost use Rattle.layout.specs.Layouts.{Valid, strict, count as place_count};
-ghost use Rattle.translation.specs.Tos.{destination as destination_of, to_of, destination_entries};
+ghost use Rattle.translation.specs.Tos.{destination as destination_of, to_of, unless_nowhere, destination_entries};
 
-use crate::kinds::TranslationTo;
+use crate::kinds::{TranslationFault, TranslationTo};
 use crate::route::Routed;
 use crate::start::shifted;
 use layout::catalogue::Catalogue;
@@ -32,19 +32,19 @@ pub fn destination<C: Catalogue>(block: &Routed<C>, k: usize) -> Option<usize>
 }
 
 impl TranslationTo {
-    /// Where the places of a via go, or the first that goes nowhere.
-    pub(crate) fn new<C: Catalogue>(block: &Routed<C>) -> Result<TranslationTo, usize>
-        ensures { result ≡ to_of (destination_of block.now.via block.now.start block.now.target) (place_count block.now.via) }
+    /// Where the places of a via go; refused at the first that goes nowhere.
+    pub(crate) fn new<C: Catalogue>(block: &Routed<C>) -> Result<TranslationTo, TranslationFault>
+        ensures { result ≡ unless_nowhere (to_of (destination_of block.now.via block.now.start block.now.target) (place_count block.now.via)) }
     {
         let count = block.via.count();
         let Some(first) = destination(block, 0) else {
-            return Err(0);
+            return Err(TranslationFault::NoDestination { place: 0 });
         };
         let mut last = first;
         let mut together = true;
         for k in 1..count {
             let Some(next) = destination(block, k) else {
-                return Err(k);
+                return Err(TranslationFault::NoDestination { place: k });
             };
             together = together & (next == last + 1);
             last = next;

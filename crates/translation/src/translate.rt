@@ -63,14 +63,11 @@ fn translate_by<C: Catalogue>(
     if !is_covered(&block.source, &block.via) {
         return Err(TranslationFault::Uncovered);
     }
-    match TranslationTo::new(block) {
-        Ok(to) => Ok(Translation {
-            from,
-            to,
-            elements: via.count as u32,
-        }),
-        Err(place) => Err(TranslationFault::NoDestination { place }),
-    }
+    Ok(Translation {
+        from,
+        to: TranslationTo::new(block)?,
+        elements: via.count as u32,
+    })
 }
 
 /// The outcome for layouts that there are.
