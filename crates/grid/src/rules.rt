@@ -20,7 +20,7 @@ fn in_range(n: usize) -> bool
 fn axes_in_range(n: [usize; 4]) -> bool
     ensures { result ≡ axes_in_range_rule n }
 {
-    in_range(n[0]) & in_range(n[1]) & in_range(n[2]) & in_range(n[3])
+    n.iter().all(|length| in_range(*length))
 }
 
 /// The lengths of a shape with at least `least` axes, 1 from the rank on, or the first of the rules

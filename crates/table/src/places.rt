@@ -25,7 +25,7 @@ fn is_before(p: [usize; 4], q: [usize; 4]) -> bool
 fn is_inside(n: [usize; 4], p: [usize; 4]) -> bool
     ensures { result ≡ inside_test n (place_of p) }
 {
-    (p[0] < n[0]) & (p[1] < n[1]) & (p[2] < n[2]) & (p[3] < n[3])
+    p.iter().zip(n.iter()).all(|(p, n)| p < n)
 }
 
 /// The places of a sparse record, whose entries are in the pool.
