@@ -1,9 +1,7 @@
 //! What a record's layout answers.
-ghost use Rattle.std.specs.Prelude.{◌≡◌, ℕ, ◌<◌, true, false, if◌then◌else◌, nat_lt, slice_index};
-ghost use Rattle.layout.specs.Places.{origin};
-ghost use Rattle.layout.specs.Layouts.{at, strict};
-ghost use Rattle.layout.specs.Layouts.{count as places_count};
-ghost use Rattle.layout.specs.Answers.{shape_of, index_of};
+ghost use Rattle.std.specs.Prelude.{◌≡◌, ℕ, ◌<◌, true, slice_index};
+ghost use Rattle.layout.specs.Layouts.{strict};
+ghost use Rattle.layout.specs.Answers.{shape_of, index_of, place_in};
 ghost use Rattle.table.specs.Records.{record_layout, sparse_layout, kept, sparse_kept, place_of};
 
 use crate::record::LayoutRecord;
@@ -64,21 +62,21 @@ fn as_index(p: [usize; 4]) -> Index
     [p[0] as i64, p[1] as i64, p[2] as i64, p[3] as i64]
 }
 
-fn sparse_place(pool: &[u16], r: LayoutRecord, number: usize) -> (Index, bool)
+fn sparse_place(pool: &[u16], r: LayoutRecord, number: usize) -> Option<Index>
     requires { sparse_kept pool.now r ≡ true }
-    ensures { result ≡ (if nat_lt number (places_count (sparse_layout pool.now r)) then (index_of (at (sparse_layout pool.now r) number), true) else (index_of origin, false)) }
+    ensures { result ≡ place_in (sparse_layout pool.now r) number }
 {
     if number < r.count {
-        (as_index(place_at(pool, r, number)), true)
+        Some(as_index(place_at(pool, r, number)))
     } else {
-        ([0, 0, 0, 0], false)
+        None
     }
 }
 
-/// The place with a number, beside whether there is one.
-pub(crate) fn place_read(pool: &[u16], r: LayoutRecord, number: usize) -> (Index, bool)
+/// The place with a number, if there is one.
+pub(crate) fn place_read(pool: &[u16], r: LayoutRecord, number: usize) -> Option<Index>
     requires { kept pool.now r ≡ true }
-    ensures { result ≡ (if nat_lt number (places_count (record_layout pool.now r)) then (index_of (at (record_layout pool.now r) number), true) else (index_of origin, false)) }
+    ensures { result ≡ place_in (record_layout pool.now r) number }
 {
     match r.kind {
         LayoutKind::Dense | LayoutKind::Diagonal => place_answer(grid_of(r), number),

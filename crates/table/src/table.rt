@@ -42,11 +42,11 @@ impl<'a> Catalogue for Table<'a> {
         }
     }
 
-    fn place(&self, layout: usize, number: usize) -> (Index, bool) {
+    fn place(&self, layout: usize, number: usize) -> Option<Index> {
         if layout < self.records.len() {
             place_read(self.pool, self.records[layout], number)
         } else {
-            ([0, 0, 0, 0], false)
+            None
         }
     }
 

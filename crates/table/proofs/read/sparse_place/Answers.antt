@@ -1,4 +1,4 @@
-use Rattle.std.proofs.Common.{◌≡◌, ◌<◌, ◌≤◌, true, false, cond, ltb, get_or, sym, ap, ◌∙◌, subst, arith, rules}
+use Rattle.std.proofs.Common.{◌≡◌, ◌<◌, ◌≤◌, true, false, cond, ltb, get_or, Some, None, sym, ap, ◌∙◌, subst, arith, rules}
 use Rattle.std.proofs.lemmas.List.FromFn.{length-map-range_with_len, get_or-map-range_with_len}
 use Rattle.std.proofs.lemmas.Bool.{lt-ltb, le-ltb}
 use Rattle.layout.specs.Places.{origin}
@@ -22,7 +22,7 @@ returns-then-number-r c =
     let t : ltb c.args.number (count l) ≡ true = lt-ltb c.args.number (count l) (omega arith) in
     let p = get_or-map-range_with_len (record_place c.args.pool.now c.args.r) 0 c.args.r.count c.args.number c.args.number origin h (omega arith) in
     let e = c.as_index.ensures ∙ ap (λ t. index_of (place_of t)) c.place_at.ensures ∙ ap index_of (sym p) in
-    ap (λ x. (x, true)) e ∙ ap (λ b. cond b (index_of (at l c.args.number), true) (index_of origin, false)) (sym t)
+    ap Some e ∙ ap (λ b. cond b (Some (index_of (at l c.args.number))) None) (sym t)
 
 pub returns-else-number-r : goal.returns-else-number-r
 returns-else-number-r c =
@@ -30,4 +30,4 @@ returns-else-number-r c =
     let h : c.args.r.count ≤ c.args.number = search rules in
     let k = length-map-range_with_len (record_place c.args.pool.now c.args.r) 0 c.args.r.count in
     let t : ltb c.args.number (count l) ≡ false = le-ltb c.args.number (count l) (omega arith) in
-    ap (λ b. cond b (index_of (at l c.args.number), true) (index_of origin, false)) (sym t)
+    ap (λ b. cond b (Some (index_of (at l c.args.number))) None) (sym t)
