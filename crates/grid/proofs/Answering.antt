@@ -1,5 +1,5 @@
 -- What the functions of `works` answer is what the layout means.
-use Rattle.std.proofs.Common.{◌≡◌, ℕ, zero, suc, ◌<◌, ◌≤◌, true, List, [], ◌∷◌, length, get_or, ℤ, Some, None, Option, sym, refl, ap, ◌∙◌, subst, arith}
+use Rattle.std.proofs.Common.{◌≡◌, ℕ, zero, suc, ◌<◌, ◌≤◌, true, List, [], ◌∷◌, length, get_or, ℤ, Some, None, Option, MatchOption, sym, refl, ap, ◌∙◌, subst, arith}
 use Rattle.std.proofs.lemmas.List.{length-take}
 use Rattle.std.proofs.ByRecursion.{All-get_or}
 use Rattle.std.proofs.lemmas.List.FromFn.{length-map-range_with_len, get_or-map-range_with_len}
@@ -54,25 +54,6 @@ small p a b c d (suc (suc zero)) = c
 small p a b c d (suc (suc (suc zero))) = d
 small p a b c d (suc (suc (suc (suc i)))) = omega arith
 
--- the lengths as the code has them are in range
-pub fours_most : (g : GridShape) → sound g ≡ true → (n : List ℕ) → n ≡ fours (grid_shape g) → (i : ℕ) → get_or n i 0 ≤ 4096
-fours_most g ok n is i = subst (λ t. get_or t i 0 ≤ 4096) (sym is) (by i) where
-  by : (i : ℕ) → get_or (fours (grid_shape g)) i 0 ≤ 4096
-  by zero = (axes_sound g ok 0 (omega arith)).1
-  by (suc zero) = (axes_sound g ok 1 (omega arith)).1
-  by (suc (suc zero)) = (axes_sound g ok 2 (omega arith)).1
-  by (suc (suc (suc zero))) = (axes_sound g ok 3 (omega arith)).1
-  by (suc (suc (suc (suc i)))) = omega arith
-
-pub fours_least : (g : GridShape) → sound g ≡ true → (n : List ℕ) → n ≡ fours (grid_shape g) → (i : ℕ) → i < 4 → 1 ≤ get_or n i 0
-fours_least g ok n is i l = subst (λ t. 1 ≤ get_or t i 0) (sym is) (by i l) where
-  by : (i : ℕ) → i < 4 → 1 ≤ get_or (fours (grid_shape g)) i 0
-  by zero l = (axes_sound g ok 0 (omega arith)).0
-  by (suc zero) l = (axes_sound g ok 1 (omega arith)).0
-  by (suc (suc zero)) l = (axes_sound g ok 2 (omega arith)).0
-  by (suc (suc (suc zero))) l = (axes_sound g ok 3 (omega arith)).0
-  by (suc (suc (suc (suc i)))) l = absurd (omega arith)
-
 module _ (g : GridShape) (ok : sound g ≡ true) (four : length g.lengths ≡ 4) (n : List ℕ) (is : n ≡ fours (grid_shape g)) (x : List ℤ) where
   here : inside g.rank n x ≡ inside (rank (grid_layout g)) (grid_shape g) x
   here = ap (λ m. inside g.rank m x) is ∙ ap (λ r. inside r (grid_shape g) x) (sym (rank_is g ok four))
@@ -99,7 +80,7 @@ module _ (g : GridShape) (ok : sound g ≡ true) (four : length g.lengths ≡ 4)
   abbrev entries_place : List ℕ → Place
   entries_place e = place (get_or e 0 0) (get_or e 1 0) (get_or e 2 0) (get_or e 3 0)
 
-  pub number_on : (e : List ℕ) → g.kind ≡ Diagonal → Some e ≡ option_map entries (inside g.rank n x) → Level g.rank (entries_place e) → Some (get_or e 0 0) ≡ strict (grid_layout g) x
+  number_on : (e : List ℕ) → g.kind ≡ Diagonal → Some e ≡ option_map entries (inside g.rank n x) → Level g.rank (entries_place e) → Some (get_or e 0 0) ≡ strict (grid_layout g) x
   number_on e d h v =
       let q = got e h in
       let s = grid_shape g in
@@ -109,7 +90,7 @@ module _ (g : GridShape) (ok : sound g ≡ true) (four : length g.lengths ≡ 4)
       let f = strict_inside (grid_layout g) x q.0 q.0.a (grid_valid g ok) q.3 (rw (count_diagonal g d) q.2.0) (at_diagonal g q.0.a d q.2.0 ∙ m) in
       ap (λ t. Some (get_or t 0 0)) q.1 ∙ sym f
 
-  pub number_off : (e : List ℕ) → g.kind ≡ Diagonal → Some e ≡ option_map entries (inside g.rank n x) → (Level g.rank (entries_place e) → ⊥) → None ≡ strict (grid_layout g) x
+  number_off : (e : List ℕ) → g.kind ≡ Diagonal → Some e ≡ option_map entries (inside g.rank n x) → (Level g.rank (entries_place e) → ⊥) → None ≡ strict (grid_layout g) x
   number_off e d h v =
       let q = got e h in
       let l = grid_layout g in
@@ -120,6 +101,10 @@ module _ (g : GridShape) (ok : sound g ≡ true) (four : length g.lengths ≡ 4)
       let lv : Level (rank l) q.0 = rw (a ∙ sym pq) at (All-get_or (Level (rank l)) l.places k origin k< levels) in
       let lw : Level g.rank q.0 = subst (λ r. Level r q.0) (rank_is g ok four) lv in
       v (subst (λ t. Level g.rank (entries_place t)) (sym q.1) lw)))
+
+  pub number_diagonal : (o : Option ℕ) (e : List ℕ) → g.kind ≡ Diagonal → Some e ≡ option_map entries (inside g.rank n x) → MatchOption o (Level g.rank (entries_place e) → ⊥) (λ k. Level g.rank (entries_place e) × (k ≡ get_or e 0 0)) → o ≡ strict (grid_layout g) x
+  number_diagonal (Some k) e d h t = ap Some t.1 ∙ number_on e d h t.0
+  number_diagonal None e d h t = number_off e d h t
 
   -- the entries are small
   pub got_small : (e : List ℕ) → Some e ≡ option_map entries (inside g.rank n x) → (i : ℕ) → get_or e i 0 < 4096

@@ -47,14 +47,11 @@ sound g = none (broken g)
 abbrev pub no_shape : GridShape
 no_shape = record { kind = Dense; rank = 0; lengths = [] }
 
-abbrev pub Sounds : List GridShape → ℕ → Type 0
-Sounds gs n = (k : ℕ) → k < n → sound (slice_index_or gs k no_shape) ≡ true
+abbrev pub grid_layouts : List GridShape → List Layout
+grid_layouts gs = map grid_layout gs
 
-abbrev pub grid_layouts : List GridShape → ℕ → List Layout
-grid_layouts gs n = map grid_layout (take n gs)
-
--- the refusal of the first n shapes: the first one at fault, or the seventeenth, for which there is no room
-abbrev pub FirstFault : List GridShape → ℕ → LayoutFault → Type 0
-FirstFault gs n f =
-    (16 < n → f ≡ Faulty 16 rule.Room)
-    × (n ≤ 16 → (k : ℕ) × (r : Rule) × (f ≡ Faulty k r) × (k < n) × (broken (slice_index_or gs k no_shape) ≡ Some r) × ((j : ℕ) → j < k → sound (slice_index_or gs j no_shape) ≡ true))
+-- the refusal of shapes: the first one at fault, or the seventeenth, for which there is no room
+abbrev pub FirstFault : List GridShape → LayoutFault → Type 0
+FirstFault gs f =
+    (16 < length gs → f ≡ Faulty 16 rule.Room)
+    × (length gs ≤ 16 → (k : ℕ) × (r : Rule) × (f ≡ Faulty k r) × (k < length gs) × (broken (slice_index_or gs k no_shape) ≡ Some r) × ((j : ℕ) → j < k → sound (slice_index_or gs j no_shape) ≡ true))

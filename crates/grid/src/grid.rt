@@ -1,72 +1,72 @@
 //! The grid catalogue.
-ghost use Rattle.std.specs.Prelude.{◌≡◌, ◌≤◌, length, MatchResult};
-ghost use Rattle.grid.specs.Grids.{Sounds, grid_layouts, FirstFault};
+ghost use Rattle.std.specs.Prelude.{◌≡◌, MatchResult};
+ghost use Rattle.grid.specs.Grids.{grid_layouts, FirstFault};
 
 use crate::shapes::GridShape;
-use crate::works::{broken_rule, number_answer, place_answer, shape_answer};
+use crate::sound_shape::SoundShape;
+use arrayvec::ArrayVec;
 use layout::catalogue::Catalogue;
 use layout::fault::{LayoutFault, Rule};
 use layout::index::Index;
 use layout::shape::Shape;
+use std::marker::Model;
 
-/// Up to 16 dense or diagonal layouts, kept by their shapes.
+/// Up to 16 dense or diagonal layouts. In clauses they are their shapes.
 #[derive(Drop)]
 pub struct Grid {
-    shapes: [GridShape; 16],
-    count: usize,
-    ghost few: { count ≤ 16 },
-    ghost all: { length shapes ≡ 16 },
-    ghost sound: { Sounds shapes count },
+    shapes: ArrayVec<SoundShape, 16>,
+}
+
+impl Model for Grid {
+    ghost use Rattle.std.specs.Prelude.{List};
+    ghost use Rattle.grid.specs.declared.shapes.GridShape.{GridShape};
+    ghost use Rattle.grid.specs.Shapes.{shapes_of};
+
+    ghost Value = { List GridShape };
+
+    ghost view = { λ g. shapes_of g.shapes.items };
 }
 
 impl Grid {
-    /// The catalogue of the first `count` shapes, or the first of them that breaks a rule.
-    pub fn new(shapes: [GridShape; 16], count: usize) -> Result<Grid, LayoutFault>
-        ensures { MatchResult result (λ g. (g.shapes ≡ shapes) × (g.count ≡ count)) (λ f. FirstFault shapes count f) }
+    /// The catalogue of shapes, or the first of them that breaks a rule.
+    pub fn new(shapes: &[GridShape]) -> Result<Grid, LayoutFault>
+        ensures { MatchResult result (λ g. g ≡ shapes.now) (λ f. FirstFault shapes.now f) }
     {
-        if count > 16 {
+        if shapes.len() > 16 {
             return Err(LayoutFault::Faulty {
                 record: 16,
                 rule: Rule::Room,
             });
         }
-        for k in 0..count {
-            if let Some(rule) = broken_rule(shapes[k]) {
-                return Err(LayoutFault::Faulty { record: k, rule });
+        let mut kept = ArrayVec::new();
+        for (k, shape) in shapes.iter().enumerate() {
+            match SoundShape::new(*shape) {
+                Ok(sound) => kept.push(sound),
+                Err(rule) => return Err(LayoutFault::Faulty { record: k, rule }),
             }
         }
-        Ok(Grid { shapes, count })
+        Ok(Grid { shapes: kept })
     }
 }
 
 impl Catalogue for Grid {
-    ghost layouts = { λ g. grid_layouts g.shapes g.count };
+    ghost layouts = { grid_layouts };
 
     fn count(&self) -> usize {
-        self.count
+        self.shapes.len()
     }
 
     fn shape(&self, layout: usize) -> Result<Shape, LayoutFault> {
-        if layout < self.count {
-            Ok(shape_answer(self.shapes[layout]))
-        } else {
-            Err(LayoutFault::Unknown)
-        }
+        let shape = self.shapes.get(layout).ok_or(LayoutFault::Unknown)?;
+        Ok(shape.shape())
     }
 
     fn place(&self, layout: usize, number: usize) -> Option<Index> {
-        if layout < self.count {
-            place_answer(self.shapes[layout], number)
-        } else {
-            None
-        }
+        self.shapes.get(layout)?.place(number)
     }
 
     fn number(&self, layout: usize, index: Index) -> Result<Option<usize>, LayoutFault> {
-        if layout < self.count {
-            Ok(number_answer(self.shapes[layout], index))
-        } else {
-            Err(LayoutFault::Unknown)
-        }
+        let shape = self.shapes.get(layout).ok_or(LayoutFault::Unknown)?;
+        Ok(shape.number(index))
     }
 }

@@ -2,5 +2,7 @@
 #![tactic(auto)]
 
 pub mod grid;
+mod radix;
+pub mod rules;
 pub mod shapes;
-pub mod works;
+pub mod sound_shape;

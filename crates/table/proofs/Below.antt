@@ -1,33 +1,28 @@
 -- A test at each number below another, and the tests of a place.
-use Rattle.std.proofs.Common.{◌≡◌, ℕ, zero, suc, ◌+◌, ◌<◌, Bool, true, false, ◌&&◌, ltb, List, sym, refl, ap, ◌∙◌, inl, inr, add-one, arith}
-use Rattle.std.proofs.lemmas.Bool.{and_parts, ltb-true, cases_order, cases_Bool, true≢false}
+use Rattle.std.proofs.Common.{◌≡◌, ℕ, zero, suc, ◌<◌, Bool, true, false, Decides, ◌&&◌, ltb, List, sym, refl, ap, ◌∙◌, inl, inr, arith}
+use Rattle.std.proofs.lemmas.Bool.{and_parts, ltb-true, cases_order, cases_Bool}
 use Rattle.std.proofs.lemmas.Bool.Decides.{nat_tests}
 use Rattle.layout.specs.Places.{Place, Before, Inside, axis, entries}
 use Rattle.grid.proofs.Answering.{fours}
 use Rattle.table.specs.Records.{each_below, inside_test, before_test, place_of}
 
 module _ (f : ℕ → Bool) where
-  pub each_more : (k : ℕ) → each_below k f ≡ true → f k ≡ true → each_below (k + 1) f ≡ true
-  each_more k h e = rw add-one (simp (h, e))
-
-  pub each_not : (n k : ℕ) → k < n → f k ≡ false → each_below n f ≡ false
-  each_not zero k h e = absurd (omega arith)
-  each_not (suc n) k h e = elim (cases_order k n) [
-    | inl i ↦ last n (ap f (sym i) ∙ e)
-    | inr o ↦ elim o [ inl l ↦ front n (each_not n k l e) | inr l ↦ absurd (omega arith) ]
-  ]
-    where
-      last : (m : ℕ) → f m ≡ false → (each_below m f && f m) ≡ false
-      last m i = rw i (by (each_below m f)) where
-        by : (b : Bool) → (b && false) ≡ false
-        by true = refl
-        by false = refl
-
-      front : (m : ℕ) → each_below m f ≡ false → (each_below m f && f m) ≡ false
-      front m i = rw i refl
-
   pub each_says : (n k : ℕ) → each_below n f ≡ true → k < n → f k ≡ true
-  each_says n k h l = elim (cases_Bool (f k)) [ inl t ↦ t | inr t ↦ absurd (true≢false (sym h ∙ each_not n k l t)) ]
+  each_says zero k h l = absurd (omega arith)
+  each_says (suc n) k h l =
+      let p = and_parts (each_below n f) (f n) h in
+      elim (cases_order k n) [
+        | inl e ↦ ap f e ∙ p.1
+        | inr o ↦ elim o [ inl i ↦ each_says n k p.0 i | inr i ↦ absurd (omega arith) ]
+      ]
+
+  each_all : (n : ℕ) → ((k : ℕ) → k < n → f k ≡ true) → each_below n f ≡ true
+  each_all zero h = refl
+  each_all (suc n) h = simp (each_all n (λ k l. h k (omega arith)), h n (omega arith))
+
+  pub each_decided : (n : ℕ) (r : Bool) → Decides r ((k : ℕ) → k < n → f k ≡ true) → r ≡ each_below n f
+  each_decided n true d = sym (each_all n (d.0 refl))
+  each_decided n false d = elim (cases_Bool (each_below n f)) [ inl t ↦ d.1 (λ k l. each_says n k t l) ∙ sym t | inr t ↦ sym t ]
 
 pub inside_said : (s : List ℕ) (p : Place) → inside_test s p ≡ true → Inside s p
 inside_said s p h =

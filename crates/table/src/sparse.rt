@@ -1,71 +1,101 @@
-//! The places of a sparse layout.
-ghost use Rattle.std.specs.Prelude.{◌≡◌, ℕ, ◌<◌, ◌≤◌, true, MatchOption, ◌≢◌};
-ghost use Rattle.std.specs.Ordering.{MatchOrdering};
-ghost use Rattle.layout.specs.Places.{Before, entries};
-ghost use Rattle.table.specs.Records.{record_entry, record_place, Held, Ascending, place_of};
+//! A sparse layout, whose places stand in the pool.
+ghost use Rattle.std.specs.Prelude.{◌≡◌, ℕ, ◌<◌, true, Some, MatchResult, slice_index};
+ghost use Rattle.layout.specs.Layouts.{strict};
+ghost use Rattle.layout.specs.Answers.{shape_of, index_of, place_in};
+ghost use Rattle.table.specs.Records.{sparse_layout, sparse_broken, sparse_kept, place_of};
 
+use crate::places::Places;
 use crate::record::LayoutRecord;
-use std::cmp::Ordering;
+use grid::rules::axes_in_range;
+use grid::shapes::GridShape;
+use layout::fault::Rule;
+use layout::index::{Index, entries_inside};
+use layout::kind::LayoutKind;
+use layout::shape::Shape;
 
-/// Entry `i` of place `k`, 0 from the rank on.
-fn entry_at(pool: &[u16], r: LayoutRecord, k: usize, i: usize) -> usize
-    requires held { Held pool.now r }
-    requires there { k < r.count }
-    ensures { result ≡ record_entry pool.now r k i }
+fn as_index(p: [usize; 4]) -> Index
+    requires { (i : ℕ) → slice_index p i < 65536 }
+    ensures { result ≡ index_of (place_of p) }
 {
-    if i < r.rank {
-        pool[r.start + k * r.rank + i] as usize
-    } else {
-        0
-    }
+    [p[0] as i64, p[1] as i64, p[2] as i64, p[3] as i64]
 }
 
-/// The entries of place `k`.
-pub(crate) fn place_at(pool: &[u16], r: LayoutRecord, k: usize) -> [usize; 4]
-    requires held { Held pool.now r }
-    requires there { k < r.count }
-    ensures { result ≡ entries (record_place pool.now r k) }
-{
-    [
-        entry_at(pool, r, k, 0),
-        entry_at(pool, r, k, 1),
-        entry_at(pool, r, k, 2),
-        entry_at(pool, r, k, 3),
-    ]
+/// A sparse layout whose record keeps the rules.
+#[derive(Clone, Copy)]
+pub(crate) struct SparseLayout<'a> {
+    places: Places<'a>,
+    ghost kept: { sparse_kept places.pool.now places.layout ≡ true },
 }
 
-/// The order of two places: that of the first entries that differ.
-pub(crate) fn cmp_index(p: [usize; 4], q: [usize; 4]) -> Ordering
-    ensures { MatchOrdering result (Before (place_of p) (place_of q)) (place_of p ≡ place_of q) (Before (place_of q) (place_of p)) }
-{
-    if p[0] != q[0] {
-        return p[0].cmp(&q[0]);
+impl<'a> SparseLayout<'a> {
+    /// The layout of a record, or the first rule that the record breaks.
+    pub(crate) fn new(pool: &'a [u16], layout: LayoutRecord) -> Result<SparseLayout<'a>, Rule>
+        ensures { MatchResult result (λ s. (s.places.pool.now ≡ pool.now) × (s.places.layout ≡ layout)) (λ rule. sparse_broken pool.now layout ≡ Some rule) }
+    {
+        if layout.rank < 1 || layout.rank > 4 {
+            return Err(Rule::Rank);
+        }
+        if !axes_in_range(GridShape::from(layout).padded()) {
+            return Err(Rule::Length);
+        }
+        if layout.count < 1 || layout.count > 65536 {
+            return Err(Rule::Count);
+        }
+        let places = Places::new(pool, layout)?;
+        if !places.are_inside() {
+            return Err(Rule::Inside);
+        }
+        if !places.ascend() {
+            return Err(Rule::Order);
+        }
+        Ok(SparseLayout { places })
     }
-    if p[1] != q[1] {
-        return p[1].cmp(&q[1]);
-    }
-    if p[2] != q[2] {
-        return p[2].cmp(&q[2]);
-    }
-    p[3].cmp(&q[3])
-}
 
-/// The number of a place, searched by halves.
-pub(crate) fn search(pool: &[u16], r: LayoutRecord, p: [usize; 4]) -> Option<usize>
-    requires held { Held pool.now r }
-    requires ascending { Ascending pool.now r }
-    requires few { r.count ≤ 65536 }
-    ensures { MatchOption result ((k : ℕ) → k < r.count → record_place pool.now r k ≢ place_of p) (λ k. (k < r.count) × (record_place pool.now r k ≡ place_of p)) }
-{
-    let mut low = 0;
-    let mut high = r.count;
-    while low < high {
-        let mid = low + (high - low) / 2;
-        match cmp_index(place_at(pool, r, mid), p) {
-            Ordering::Less => low = mid + 1,
-            Ordering::Equal => return Some(mid),
-            Ordering::Greater => high = mid,
+    /// The layout of a record that is known to keep the rules.
+    pub(crate) fn known(pool: &'a [u16], layout: LayoutRecord) -> SparseLayout<'a>
+        requires { sparse_kept pool.now layout ≡ true }
+        ensures { (result.places.pool.now ≡ pool.now) × (result.places.layout ≡ layout) }
+    {
+        SparseLayout {
+            places: Places::known(pool, layout),
         }
     }
-    None
+
+    fn lengths(&self) -> [usize; 4]
+        ensures { result ≡ (shape_of (sparse_layout self.now.places.pool.now self.now.places.layout)).lengths }
+    {
+        GridShape::from(self.places.layout).padded()
+    }
+
+    /// The kind, rank, lengths and place count.
+    pub(crate) fn shape(&self) -> Shape
+        ensures { result ≡ shape_of (sparse_layout self.now.places.pool.now self.now.places.layout) }
+    {
+        let layout = self.places.layout;
+        Shape {
+            kind: LayoutKind::Sparse,
+            rank: layout.rank,
+            lengths: self.lengths(),
+            count: layout.count,
+        }
+    }
+
+    /// The place with a number, if there is one.
+    pub(crate) fn place(&self, number: usize) -> Option<Index>
+        ensures { result ≡ place_in (sparse_layout self.now.places.pool.now self.now.places.layout) number }
+    {
+        if number < self.places.layout.count {
+            Some(as_index(self.places.get(number)))
+        } else {
+            None
+        }
+    }
+
+    /// The number of an index, looked up strictly.
+    pub(crate) fn number(&self, index: Index) -> Option<usize>
+        ensures { result ≡ strict (sparse_layout self.now.places.pool.now self.now.places.layout) index }
+    {
+        let e = entries_inside(self.places.layout.rank, self.lengths(), index)?;
+        self.places.search(e)
+    }
 }

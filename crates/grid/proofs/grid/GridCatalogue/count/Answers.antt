@@ -1,9 +1,8 @@
-use Rattle.std.proofs.Common.{sym}
-use Rattle.grid.proofs.Kept.{kept_length, kept_valid}
+use Rattle.std.proofs.Common.{subst}
+use Rattle.layout.specs.Layouts.{AllValid}
+use Rattle.grid.specs.Grids.{grid_layouts}
+use Rattle.grid.proofs.Kept.{kept_valid}
 use Rattle.grid.proofs.grid.GridCatalogue.count.Goals as goal
 
-pub returns : goal.returns
-returns c =
-    let g = c.args.self.now in
-    let n = kept_length g.shapes g.count g.few g.all in
-    record { many = sym n; valid = kept_valid g.shapes g.count g.few g.all g.sound }
+pub returns-clause-valid : goal.returns-clause-valid
+returns-clause-valid c = subst (λ gs. AllValid (grid_layouts gs)) c.self.view_is (kept_valid c.self.inside.shapes.items)

@@ -1,18 +1,15 @@
-use Rattle.std.proofs.Common.{get_or, Ok, ap, ◌∙◌, arith}
+use Rattle.std.proofs.Common.{◌≡◌, ◌<◌, ◌≤◌, length, Ok, ap, ◌∙◌, subst, MatchOption}
+use Rattle.std.specs.List.{HoldsAt}
 use Rattle.layout.specs.Layouts.{strict}
-use Rattle.layout.proofs.Asking.{asked_there, asked_not}
-use Rattle.grid.specs.Grids.{grid_layout, grid_layouts, no_shape}
-use Rattle.grid.proofs.Kept.{kept_length, kept_at}
+use Rattle.layout.proofs.Asking.{asked_there}
+use Rattle.grid.specs.Grids.{grid_layout, grid_layouts}
+use Rattle.grid.proofs.Kept.{there, here}
 use Rattle.grid.proofs.grid.GridCatalogue.number.Goals as goal
 
-pub returns-then-layout-self : goal.returns-then-layout-self
-returns-then-layout-self c =
-    let g = c.args.self.now in
-    let n = kept_length g.shapes g.count g.few g.all in
-    ap Ok c.number_answer.ensures ∙ asked_there (grid_layouts g.shapes g.count) c.args.layout (λ l. strict l c.args.index) (grid_layout (get_or g.shapes c.args.layout no_shape)) (omega (arith, c.if-layout-self.true)) (kept_at g.shapes g.count g.few g.all c.args.layout c.if-layout-self.true)
-
-pub returns-else-layout-self : goal.returns-else-layout-self
-returns-else-layout-self c =
-    let g = c.args.self.now in
-    let n = kept_length g.shapes g.count g.few g.all in
-    asked_not (grid_layouts g.shapes g.count) c.args.layout (λ l. strict l c.args.index) (omega (arith, c.if-layout-self.false))
+pub returns : goal.returns
+returns c =
+    let gs = c.args.self.now in
+    let k = c.args.layout in
+    let s = c.in_ok-shape.shape.now in
+    let f = subst (λ o. MatchOption o (length c.deref.result.now ≤ k) (λ x. (k < length c.deref.result.now) × HoldsAt (λ y. x.now ≡ y) c.deref.result.now k)) c.in_ok-shape.ensures.ok_part c.get.ensures.lookup.3 in
+    ap Ok c.number.ensures ∙ asked_there (grid_layouts gs) k (λ l. strict l c.args.index) (grid_layout s.shape) (there gs c.self.inside.shapes.items c.deref.result.now c.self.view_is c.deref.ensures.0 k s f) (here gs c.self.inside.shapes.items c.deref.result.now c.self.view_is c.deref.ensures.0 k s f)

@@ -1,17 +1,13 @@
-use Rattle.std.proofs.Common.{get_or, ◌∙◌, arith}
-use Rattle.layout.proofs.Asking.{place_there, place_not}
-use Rattle.grid.specs.Grids.{grid_layout, grid_layouts, no_shape}
-use Rattle.grid.proofs.Kept.{kept_length, kept_at}
+use Rattle.std.proofs.Common.{◌∙◌}
+use Rattle.layout.proofs.Asking.{place_there}
+use Rattle.grid.specs.Grids.{grid_layout, grid_layouts}
+use Rattle.grid.proofs.Kept.{there, here}
 use Rattle.grid.proofs.grid.GridCatalogue.place.Goals as goal
 
-pub returns-then-layout-self : goal.returns-then-layout-self
-returns-then-layout-self c =
-    let g = c.args.self.now in
-    let n = kept_length g.shapes g.count g.few g.all in
-    c.place_answer.ensures ∙ place_there (grid_layouts g.shapes g.count) c.args.layout c.args.number (grid_layout (get_or g.shapes c.args.layout no_shape)) (omega (arith, c.if-layout-self.true)) (kept_at g.shapes g.count g.few g.all c.args.layout c.if-layout-self.true)
-
-pub returns-else-layout-self : goal.returns-else-layout-self
-returns-else-layout-self c =
-    let g = c.args.self.now in
-    let n = kept_length g.shapes g.count g.few g.all in
-    place_not (grid_layouts g.shapes g.count) c.args.layout c.args.number (omega (arith, c.if-layout-self.false))
+pub returns : goal.returns
+returns c =
+    let gs = c.args.self.now in
+    let k = c.args.layout in
+    let s = c.in_ok-get.field-0.now in
+    let f = c.in_ok-get.ensures.lookup.3 in
+    c.place.ensures ∙ place_there (grid_layouts gs) k c.args.number (grid_layout s.shape) (there gs c.self.inside.shapes.items c.deref.result.now c.self.view_is c.deref.ensures.0 k s f) (here gs c.self.inside.shapes.items c.deref.result.now c.self.view_is c.deref.ensures.0 k s f)
