@@ -29,12 +29,6 @@ flat_length : (rank : ℕ) (ps : List (List (List ℕ))) → AllByRecursion (λ 
 flat_length rank [] h = omega arith
 flat_length rank (p ∷ ps) h = omega (arith, length-append p (flat ps), h.0, flat_length rank ps h.1, suc-mul (length ps) rank)
 
-no_words : (places : List (List (List ℕ))) (last all rest : List (List ℕ)) (es before now : List ℕ) → length places ≡ 0 → length last ≡ 0 → all ≡ flat_map ended places ++ (last ++ rest) → Says natural (flat places ++ last) es → rest ≡ [] → now ≡ before ++ es → (all ≡ []) × (now ≡ before)
-no_words [] [] all rest [] before now p l split said none pooled = (split ∙ none, pooled ∙ append-nil before)
-no_words [] [] all rest (e ∷ es) before now p l split said none pooled = absurd said
-no_words [] (w ∷ ws) all rest es before now p l split said none pooled = absurd (omega arith)
-no_words (x ∷ xs) last all rest es before now p l split said none pooled = absurd (omega arith)
-
 module _ {rank place entries : ℕ} {all rest : List (List ℕ)} {before now : List ℕ} (old : Sofar rank all rest before now place entries) where
   -- the entries so far are in the pool
   pub room : place * rank + entries ≤ length now
@@ -95,8 +89,3 @@ module _ {rank place entries : ℕ} {all rest : List (List ℕ)} {before now : L
     },
     old.pooled,
   )
-
-  pub unlisted : rest ≡ [] → place ≡ 0 → entries ≡ 0 → Pooled rank all 0 before now
-  unlisted none no_place no_entry =
-      let h = no_words old.places old.last all rest old.es before now (old.many ∙ no_place) (old.part ∙ no_entry) old.split old.said none old.pooled in
-      inl (h.0, refl, h.1)
