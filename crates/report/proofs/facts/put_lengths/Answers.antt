@@ -1,11 +1,12 @@
-use Rattle.std.proofs.Common.{◌++◌, string_bytes, ap, ◌∙◌, arith}
+use Rattle.std.proofs.Common.{◌++◌, string_bytes, ap, ◌∙◌}
 use Rattle.std.specs.List.{flat_map}
+use Rattle.std.proofs.lemmas.List.{take_all}
 use Rattle.report.specs.Facts.{after_blank}
-use Rattle.report.proofs.Texts.{all_taken, more_joined}
+use Rattle.report.proofs.Texts.{more_joined}
 use Rattle.report.proofs.facts.put_lengths.Goals as goal
 
-pub loop-i-preserved : goal.loop-i-preserved
-loop-i-preserved c = (omega arith, more_joined after_blank c.args.lengths.now c.loop-i.i _ _ _ _ (omega arith) c.loop-i.invariant.1 c.in_ok-write.ensures.bytes)
+pub loop-length-preserved : goal.loop-length-preserved
+loop-length-preserved c = more_joined after_blank c.args.lengths.now c.loop-length.length-index _ _ _ _ c.loop-length-test.true c.loop-length.invariant c.in_ok-write.ensures.bytes
 
 pub returns : goal.returns
-returns c = c.loop-i.invariant.1 ∙ ap (λ l. string_bytes c.args.out.now ++ flat_map after_blank l) (all_taken c.args.lengths.now c.loop-i.i c.args.rank c.loop-i.invariant.0 (omega arith))
+returns c = c.loop-length.invariant ∙ ap (λ l. string_bytes c.args.out.now ++ flat_map after_blank l) (take_all c.loop-length.length-index c.args.lengths.now c.loop-length-test.false)
