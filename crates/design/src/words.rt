@@ -71,7 +71,7 @@ impl<'a> Words<'a> {
     }
 
     /// The fault of a `:` where the line has to end.
-    pub fn stray_colon(&self) -> Fault<'a>
+    pub(crate) fn stray_colon(&self) -> Fault<'a>
         ensures { Blames self.now.line wanted.End result }
     {
         self.fault(What::Word(":", Odd::OutOfPlace), Expected::End)

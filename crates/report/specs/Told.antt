@@ -1,9 +1,8 @@
 -- What questions are answered, given the layouts that they are asked of.
-use Rattle.std.specs.Prelude.{ℕ, cond, List, [], ◌∷◌, length, ℤ, pos, Some, None, Ok, Err, Option, Result, nat_lt, slice_index_or}
+use Rattle.std.specs.Prelude.{ℕ, cond, List, [], ◌∷◌, ℤ, pos, Some, None, Ok, Err, Option, Result, nat_lt}
 use Rattle.layout.specs.declared.fault.LayoutFault.{LayoutFault}
-use Rattle.layout.specs.declared.fault.LayoutFault.TheVariants.{Unknown}
 use Rattle.layout.specs.Answers.{asked, index_of, number_asked, wide_asked}
-use Rattle.layout.specs.Layouts.{Layout, blank, count, rank, at}
+use Rattle.layout.specs.Layouts.{Layout, count, rank, at}
 use Rattle.report.specs.declared.answer.Found.{Found}
 use Rattle.report.specs.declared.answer.Found.TheVariants.{Number, Place}
 use Rattle.design.specs.declared.ask.Lookup.{Lookup}

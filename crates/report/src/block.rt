@@ -73,7 +73,7 @@ impl<'a, C: Catalogue> Block<'a, C> {
     }
 
     /// Its translation.
-    pub fn translation(&self) -> Translation
+    pub(crate) fn translation(&self) -> Translation
         ensures { result ≡ self.now.translation }
     {
         self.translation

@@ -6,7 +6,6 @@ use crate::words::{put_from_words, put_trans_words};
 use design::ask::{Ask, Entries, Question};
 use design::layout_line::LayoutLine;
 use layout::catalogue::Catalogue;
-use layout::index::Index;
 use layout::layout_ref::LayoutRef;
 use layout::shape::Shape;
 use std::alloc::AllocError;
@@ -37,21 +36,21 @@ fn put_layout<C: Catalogue>(
     put_picture(out, layout)
 }
 
-fn put_index(out: &mut String, rank: usize, index: Index) -> Result<(), AllocError> {
+fn put_index(out: &mut String, index: &[i64]) -> Result<(), AllocError> {
     write!(out, "(")?;
-    put_joined(out, first(&index, rank), ", ")?;
+    put_joined(out, index, ", ")?;
     write!(out, ")")
 }
 
 fn put_entries(out: &mut String, entries: Entries) -> Result<(), AllocError> {
-    put_index(out, entries.count, entries.index)
+    put_index(out, first(&entries.index, entries.count))
 }
 
 fn put_answer(out: &mut String, layout: usize, answer: Answer) -> Result<(), AllocError> {
     write!(out, ": ")?;
     match answer {
         Ok(Some(Found::Number(n))) => write!(out, "place {n}"),
-        Ok(Some(Found::Place { rank, index })) => put_index(out, rank, index),
+        Ok(Some(Found::Place { rank, index })) => put_index(out, first(&index, rank)),
         Ok(None) => write!(out, "no place"),
         Err(fault) => {
             put_refused(out, fault.report())?;

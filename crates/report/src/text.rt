@@ -7,7 +7,7 @@ use std::alloc::AllocError;
 use std::fmt::Display;
 
 /// The first `count` items, or all where there are fewer.
-pub fn first<T>(items: &[T], count: usize) -> &[T]
+pub(crate) fn first<T>(items: &[T], count: usize) -> &[T]
     ensures { result.now ≡ take count items.now }
 {
     &items[..count.min(items.len())]
@@ -44,7 +44,7 @@ pub fn put_refusal(out: &mut String, report: Report) -> Result<(), AllocError>
 }
 
 /// Writes a refusal in words, up to its reason.
-pub fn put_refused(out: &mut String, report: Report) -> Result<(), AllocError> {
+pub(crate) fn put_refused(out: &mut String, report: Report) -> Result<(), AllocError> {
     let Report {
         number,
         layer,
