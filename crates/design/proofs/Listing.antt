@@ -1,5 +1,5 @@
 -- The places of a sparse layout, word by word.
-use Rattle.std.proofs.Common.{◌≡◌, ℕ, ◌+◌, ◌*◌, ◌<◌, ◌≤◌, List, [], ◌∷◌, ◌++◌, length, codes, sym, refl, ap, ◌∙◌, subst, inl, inr, append_assoc, append-nil, suc-mul, le-mul_of_pos_right, arith, length-append}
+use Rattle.std.proofs.Common.{◌≡◌, ℕ, ◌+◌, ◌*◌, ◌<◌, ◌≤◌, List, [], ◌∷◌, ◌++◌, length, codes, sym, refl, ap, ◌∙◌, subst, inr, append_assoc, append-nil, suc-mul, le-mul_of_pos_right, arith, length-append}
 use Rattle.std.specs.List.{flat_map, AllByRecursion}
 use Rattle.std.proofs.ByRecursion.{All-push}
 use Rattle.std.proofs.lemmas.List.{flat_map_more, length_push}
@@ -28,12 +28,6 @@ none_yet rank all before = record { places = []; last = []; es = []; split = ref
 flat_length : (rank : ℕ) (ps : List (List (List ℕ))) → AllByRecursion (λ p. length p ≡ rank) ps → length (flat ps) ≡ length ps * rank
 flat_length rank [] h = omega arith
 flat_length rank (p ∷ ps) h = omega (arith, length-append p (flat ps), h.0, flat_length rank ps h.1, suc-mul (length ps) rank)
-
-no_words : (places : List (List (List ℕ))) (last all rest : List (List ℕ)) (es before now : List ℕ) → length places ≡ 0 → length last ≡ 0 → all ≡ flat_map ended places ++ (last ++ rest) → Says natural (flat places ++ last) es → rest ≡ [] → now ≡ before ++ es → (all ≡ []) × (now ≡ before)
-no_words [] [] all rest [] before now p l split said none pooled = (split ∙ none, pooled ∙ append-nil before)
-no_words [] [] all rest (e ∷ es) before now p l split said none pooled = absurd said
-no_words [] (w ∷ ws) all rest es before now p l split said none pooled = absurd (omega arith)
-no_words (x ∷ xs) last all rest es before now p l split said none pooled = absurd (omega arith)
 
 module _ {rank place entries : ℕ} {all rest : List (List ℕ)} {before now : List ℕ} (old : Sofar rank all rest before now place entries) where
   -- the entries so far are in the pool
@@ -95,8 +89,3 @@ module _ {rank place entries : ℕ} {all rest : List (List ℕ)} {before now : L
     },
     old.pooled,
   )
-
-  pub unlisted : rest ≡ [] → place ≡ 0 → entries ≡ 0 → Pooled rank all 0 before now
-  unlisted none no_place no_entry =
-      let h = no_words old.places old.last all rest old.es before now (old.many ∙ no_place) (old.part ∙ no_entry) old.split old.said none old.pooled in
-      inl (h.0, refl, h.1)

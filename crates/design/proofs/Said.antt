@@ -4,7 +4,7 @@ use Rattle.std.specs.declared.num.ParseIntError.{ParseIntError}
 use Rattle.std.specs.Str.Parse.{ParsesUnsigned, ParsesSigned}
 use Rattle.table.specs.declared.record.LayoutRecord.{LayoutRecord}
 use Rattle.design.specs.declared.ask.Entries.{Entries}
-use Rattle.design.specs.Keywords.{kind_word}
+use Rattle.layout.specs.Words.{kind_word}
 use Rattle.design.specs.Lines.{natural, integer, EntriesSaid, PlacesSaid, LayoutSaid}
 use Rattle.design.specs.Numbers.{Says, four}
 use Rattle.design.specs.Texts.{Numbered}

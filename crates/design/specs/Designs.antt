@@ -4,14 +4,14 @@ use Rattle.std.specs.Str.Lines.{IsFirstLine}
 use Rattle.table.specs.declared.record.LayoutRecord.{LayoutRecord}
 use Rattle.design.specs.declared.ask.Ask.{Ask}
 use Rattle.design.specs.declared.ask.Ask.TheVariants as ask
-use Rattle.design.specs.declared.ask.Entries.{Entries}
+use Rattle.design.specs.declared.ask.Lookup.TheVariants.{Wide, Strict}
 use Rattle.design.specs.declared.ask.Question.{Question}
 use Rattle.design.specs.declared.command.Command.{Command}
 use Rattle.design.specs.declared.command.Command.TheVariants as command
 use Rattle.design.specs.declared.layout_line.LayoutLine.{LayoutLine}
 use Rattle.design.specs.declared.read.Design.{Design}
 use Rattle.design.specs.Keywords.{command_word}
-use Rattle.design.specs.Lines.{LayoutSaid, LookupSaid, PairSaid, TranslationSaid}
+use Rattle.design.specs.Lines.{LayoutSaid, LookupAsked, PairSaid, TranslationAsked}
 use Rattle.design.specs.Texts.{words}
 
 -- a line up to the first `#`
@@ -33,11 +33,11 @@ nothing = record { layouts = []; pool = []; questions = [] }
 
 -- the words after a command ask a question; not every command is read yet
 abbrev pub Asked : Command → List (List ℕ) → Ask → Type 0
-Asked command.Find ws a = (n : ℕ) × (e : Entries) × (a ≡ ask.Find n e) × LookupSaid ws n e
-Asked command.Number ws a = (n : ℕ) × (e : Entries) × (a ≡ ask.Number n e) × LookupSaid ws n e
+Asked command.Find ws a = LookupAsked Wide ws a
+Asked command.Number ws a = LookupAsked Strict ws a
 Asked command.Place ws a = (n k : ℕ) × (a ≡ ask.Place n k) × PairSaid ws n k
 Asked command.From ws a = (s v : ℕ) × (a ≡ ask.From s v) × PairSaid ws s v
-Asked command.Trans ws a = (s v t : ℕ) × (e : Entries) × (a ≡ ask.Trans s v t e) × TranslationSaid ws s v t e
+Asked command.Trans ws a = TranslationAsked ws a
 Asked command.Layout ws a = ⊥
 Asked command.Open ws a = ⊥
 Asked command.Block ws a = ⊥

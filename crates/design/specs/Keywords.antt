@@ -1,21 +1,9 @@
--- The words for kinds, layers and commands.
-use Rattle.std.specs.Prelude.{ℕ, List, codes}
-use Rattle.layout.specs.declared.fault.Layer.{Layer}
-use Rattle.layout.specs.declared.fault.Layer.TheVariants.{Translation, Expression, Stage}
-use Rattle.layout.specs.declared.kind.LayoutKind.{LayoutKind}
-use Rattle.layout.specs.declared.kind.LayoutKind.TheVariants.{Dense, Diagonal, Sparse}
+-- The words for commands and lookups.
+use Rattle.std.specs.Prelude.{◌≡◌, ◌≢◌, ℕ, List, codes, MatchResult, Result}
+use Rattle.design.specs.declared.ask.Lookup.{Lookup}
+use Rattle.design.specs.declared.ask.Lookup.TheVariants.{Wide, Strict}
 use Rattle.design.specs.declared.command.Command.{Command}
 use Rattle.design.specs.declared.command.Command.TheVariants as command
-
-abbrev pub kind_word : LayoutKind → List ℕ
-kind_word Dense = codes "dense"
-kind_word Diagonal = codes "diagonal"
-kind_word Sparse = codes "sparse"
-
-abbrev pub layer_word : Layer → List ℕ
-layer_word Translation = codes "translation"
-layer_word Expression = codes "expression"
-layer_word Stage = codes "stage"
 
 abbrev pub command_word : Command → List ℕ
 command_word command.Layout = codes "layout"
@@ -30,3 +18,11 @@ command_word command.From = codes "from"
 command_word command.Trans = codes "trans"
 command_word command.Binary = codes "binary"
 command_word command.Fn = codes "fn"
+
+abbrev pub lookup_word : Lookup → List ℕ
+lookup_word Wide = codes "wide"
+lookup_word Strict = codes "strict"
+
+-- a word is read as the command that it names, and refused where it names none
+abbrev pub CommandRead : {E : Type 0} → List ℕ → Result Command E → Type 0
+CommandRead word r = MatchResult r (λ c. command_word c ≡ word) (λ _. (c : Command) → command_word c ≢ word)

@@ -5,9 +5,12 @@ use Rattle.std.specs.Str.Parse.{IsNumeral, digits_value, without_leading_plus, w
 use Rattle.layout.specs.declared.kind.LayoutKind.{LayoutKind}
 use Rattle.layout.specs.declared.kind.LayoutKind.TheVariants.{Dense, Diagonal, Sparse}
 use Rattle.table.specs.declared.record.LayoutRecord.{LayoutRecord}
+use Rattle.design.specs.declared.ask.Ask.{Ask}
+use Rattle.design.specs.declared.ask.Ask.TheVariants as ask
 use Rattle.design.specs.declared.ask.Entries.{Entries}
+use Rattle.design.specs.declared.ask.Lookup.{Lookup}
 use Rattle.design.specs.declared.words.Words.{Words}
-use Rattle.design.specs.Keywords.{kind_word}
+use Rattle.layout.specs.Words.{kind_word}
 use Rattle.design.specs.Numbers.{Says, four}
 use Rattle.design.specs.Texts.{left}
 
@@ -70,6 +73,10 @@ pub record EntriesSaid (ws : List (List ℕ)) (e : Entries) : Type 0 where
 abbrev pub LookupSaid : List (List ℕ) → ℕ → Entries → Type 0
 LookupSaid ws layout e = (w : List ℕ) × (es : List (List ℕ)) × (ws ≡ w ∷ es) × natural w layout × EntriesSaid es e
 
+-- and ask for it
+abbrev pub LookupAsked : Lookup → List (List ℕ) → Ask → Type 0
+LookupAsked how ws a = (n : ℕ) × (e : Entries) × (a ≡ ask.Lookup how n e) × LookupSaid ws n e
+
 -- two words say two numbers
 abbrev pub PairSaid : List (List ℕ) → ℕ → ℕ → Type 0
 PairSaid ws m n = (w v : List ℕ) × (ws ≡ w ∷ v ∷ []) × natural w m × natural v n
@@ -78,3 +85,7 @@ PairSaid ws m n = (w v : List ℕ) × (ws ≡ w ∷ v ∷ []) × natural w m × 
 abbrev pub TranslationSaid : List (List ℕ) → ℕ → ℕ → ℕ → Entries → Type 0
 TranslationSaid ws source via target e =
     (s v t : List ℕ) × (es : List (List ℕ)) × (ws ≡ s ∷ v ∷ t ∷ es) × natural s source × natural v via × natural t target × EntriesSaid es e
+
+-- and ask for it
+abbrev pub TranslationAsked : List (List ℕ) → Ask → Type 0
+TranslationAsked ws a = (s v t : ℕ) × (e : Entries) × (a ≡ ask.Trans s v t e) × TranslationSaid ws s v t e

@@ -1,5 +1,9 @@
 //! Questions about layouts and translations.
+ghost use Rattle.std.specs.Prelude.{Some};
+ghost use Rattle.design.specs.Keywords.{lookup_word};
+
 use layout::index::Index;
+use std::fmt;
 
 /// An index as a question gives it: so many entries, and 0 beyond.
 #[derive(Clone, Copy)]
@@ -8,16 +12,32 @@ pub struct Entries {
     pub index: Index,
 }
 
+/// How an index is looked up.
+#[derive(Clone, Copy, PartialEq, Eq)]
+pub enum Lookup {
+    /// An entry above 0 on an axis of length 1 counts as 0.
+    Wide,
+    /// The index is found only inside the shape.
+    Strict,
+}
+
+impl fmt::Display for Lookup {
+    ghost output = { λ how. Some (lookup_word how) };
+
+    fn fmt<W: fmt::Write>(&self, f: &mut fmt::Formatter<W>) -> fmt::Result {
+        f.write_str(match *self {
+            Lookup::Wide => "wide",
+            Lookup::Strict => "strict",
+        })
+    }
+}
+
 /// What a question asks.
 #[derive(Clone, Copy)]
 pub enum Ask {
-    /// The wide lookup of an index.
-    Find {
-        layout: usize,
-        entries: Entries,
-    },
-    /// The strict lookup of an index.
-    Number {
+    /// The lookup of an index.
+    Lookup {
+        how: Lookup,
         layout: usize,
         entries: Entries,
     },

@@ -1,6 +1,7 @@
 //! The lines of a design, by their first words.
-ghost use Rattle.std.specs.Prelude.{◌≡◌, MatchOption, ◌≢◌};
-ghost use Rattle.design.specs.Keywords.{command_word};
+ghost use Rattle.design.specs.Keywords.{CommandRead};
+
+use std::str::FromStr;
 
 /// What a line does.
 #[derive(Clone, Copy, PartialEq, Eq)]
@@ -19,23 +20,30 @@ pub enum Command {
     Fn,
 }
 
-/// The command that a word names.
-pub fn command_of(word: &str) -> Option<Command>
-    ensures { MatchOption result ((c : Command) → command_word c ≢ word.now) (λ c. command_word c ≡ word.now) }
-{
-    match word {
-        "layout" => Some(Command::Layout),
-        "find" => Some(Command::Find),
-        "number" => Some(Command::Number),
-        "place" => Some(Command::Place),
-        "open" => Some(Command::Open),
-        "block" => Some(Command::Block),
-        "close" => Some(Command::Close),
-        "value" => Some(Command::Value),
-        "from" => Some(Command::From),
-        "trans" => Some(Command::Trans),
-        "binary" => Some(Command::Binary),
-        "fn" => Some(Command::Fn),
-        _ => None,
+/// A word that names no command.
+#[derive(Clone, Copy, PartialEq, Eq)]
+pub struct UnknownCommand;
+
+impl FromStr for Command {
+    type Err = UnknownCommand;
+
+    ghost from_str_gives = { CommandRead };
+
+    fn from_str(word: &str) -> Result<Command, UnknownCommand> {
+        match word {
+            "layout" => Ok(Command::Layout),
+            "find" => Ok(Command::Find),
+            "number" => Ok(Command::Number),
+            "place" => Ok(Command::Place),
+            "open" => Ok(Command::Open),
+            "block" => Ok(Command::Block),
+            "close" => Ok(Command::Close),
+            "value" => Ok(Command::Value),
+            "from" => Ok(Command::From),
+            "trans" => Ok(Command::Trans),
+            "binary" => Ok(Command::Binary),
+            "fn" => Ok(Command::Fn),
+            _ => Err(UnknownCommand),
+        }
     }
 }

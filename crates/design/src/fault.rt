@@ -21,14 +21,16 @@ pub enum Odd {
     Extra,
 }
 
-fn odd_phrase(odd: Odd) -> &'static str {
-    match odd {
-        Odd::Unknown => "is unknown",
-        Odd::Unread => "lines are not read yet",
-        Odd::NoNumber => "is no number here",
-        Odd::OutOfRange => "is out of range",
-        Odd::OutOfPlace => "is out of place",
-        Odd::Extra => "is a word too many",
+impl fmt::Display for Odd {
+    fn fmt<W: fmt::Write>(&self, f: &mut fmt::Formatter<W>) -> fmt::Result {
+        f.write_str(match *self {
+            Odd::Unknown => "is unknown",
+            Odd::Unread => "lines are not read yet",
+            Odd::NoNumber => "is no number here",
+            Odd::OutOfRange => "is out of range",
+            Odd::OutOfPlace => "is out of place",
+            Odd::Extra => "is a word too many",
+        })
     }
 }
 
@@ -47,28 +49,31 @@ pub enum What<'a> {
     Entries(usize),
 }
 
-/// The word for so many entries.
-fn entries_phrase(n: usize) -> &'static str {
-    if n == 1 { "entry" } else { "entries" }
+/// So many entries, as they are told.
+#[derive(Clone, Copy)]
+struct EntryCount(usize);
+
+impl fmt::Display for EntryCount {
+    fn fmt<W: fmt::Write>(&self, f: &mut fmt::Formatter<W>) -> fmt::Result {
+        match self.0 {
+            1 => write!(f, "1 entry"),
+            n => write!(f, "{n} entries"),
+        }
+    }
 }
 
 impl fmt::Display for What<'_> {
     fn fmt<W: fmt::Write>(&self, f: &mut fmt::Formatter<W>) -> fmt::Result {
         match *self {
             What::End => write!(f, "the line ends here"),
-            What::Word(word, odd) => {
-                let phrase = odd_phrase(odd);
-                write!(f, "`{word}` {phrase}")
-            }
-            What::ShortPlace { place, entries } => {
-                let phrase = entries_phrase(entries);
-                write!(f, "place {place} has {entries} {phrase}")
-            }
+            What::Word(word, odd) => write!(f, "`{word}` {odd}"),
+            What::ShortPlace { place, entries } => write!(
+                f,
+                "place {place} has {}",
+                EntryCount(entries)
+            ),
             What::LongPlace { place, word } => write!(f, "place {place} goes on with `{word}`"),
-            What::Entries(entries) => {
-                let phrase = entries_phrase(entries);
-                write!(f, "the index has {entries} {phrase}")
-            }
+            What::Entries(entries) => write!(f, "the index has {}", EntryCount(entries)),
         }
     }
 }
@@ -99,32 +104,21 @@ pub enum Expected {
     Entries(usize),
 }
 
-fn expected_phrase(expected: Expected) -> &'static str {
-    match expected {
-        Expected::Command => "layout, find, number, place, from or trans",
-        Expected::Kind => "dense, diagonal or sparse",
-        Expected::Layout => "the number of a layout, from 0",
-        Expected::Length => "the length of an axis, 1 to 4,096",
-        Expected::Colon => "`:` and the places",
-        Expected::PlaceEntry => "an entry of 0 to 65,535",
-        Expected::IndexEntry => "an entry that fits 64 bits with a sign",
-        Expected::Place => "the number of a place, which fits 64 bits",
-        Expected::FewEntries => "at most 4 entries",
-        Expected::Comma => "`,` or the end of the line",
-        Expected::End => "the end of the line",
-        Expected::Entries(_) => "one for each axis",
-    }
-}
-
 impl fmt::Display for Expected {
     fn fmt<W: fmt::Write>(&self, f: &mut fmt::Formatter<W>) -> fmt::Result {
-        let phrase = expected_phrase(*self);
         match *self {
-            Expected::Entries(n) => {
-                let entries = entries_phrase(n);
-                write!(f, "{n} {entries}, {phrase}")
-            }
-            _ => write!(f, "{phrase}"),
+            Expected::Command => write!(f, "layout, find, number, place, from or trans"),
+            Expected::Kind => write!(f, "dense, diagonal or sparse"),
+            Expected::Layout => write!(f, "the number of a layout, from 0"),
+            Expected::Length => write!(f, "the length of an axis, 1 to 4,096"),
+            Expected::Colon => write!(f, "`:` and the places"),
+            Expected::PlaceEntry => write!(f, "an entry of 0 to 65,535"),
+            Expected::IndexEntry => write!(f, "an entry that fits 64 bits with a sign"),
+            Expected::Place => write!(f, "the number of a place, which fits 64 bits"),
+            Expected::FewEntries => write!(f, "at most 4 entries"),
+            Expected::Comma => write!(f, "`,` or the end of the line"),
+            Expected::End => write!(f, "the end of the line"),
+            Expected::Entries(n) => write!(f, "{}, one for each axis", EntryCount(n)),
         }
     }
 }
@@ -160,13 +154,6 @@ impl<'a, T: Drop> From<AllocFailed<T>> for Fault<'a> {
     }
 }
 
-// A text that is written into memory fails only for want of it.
-impl<'a> From<fmt::Error> for Fault<'a> {
-    fn from(_e: fmt::Error) -> Fault<'a> {
-        Fault::Memory
-    }
-}
-
 /// A rule that a layout of a kind breaks.
 #[derive(Clone, Copy)]
 pub struct Broken {
@@ -174,33 +161,32 @@ pub struct Broken {
     pub rule: Rule,
 }
 
-fn rank_phrase(kind: LayoutKind) -> &'static str {
+/// The fewest axes of a layout of a kind.
+fn least_rank(kind: LayoutKind) -> usize {
     match kind {
-        LayoutKind::Dense => "a dense layout must have 0 to 4 axes",
-        LayoutKind::Diagonal => "a diagonal layout must have 1 to 4 axes",
-        LayoutKind::Sparse => "a sparse layout must have 1 to 4 axes",
-    }
-}
-
-/// A broken rule with its limits.
-fn rule_phrase(broken: Broken) -> &'static str {
-    match broken.rule {
-        Rule::Room => "there is no room for so many layouts",
-        Rule::Kind => "there can be no layout of this kind here",
-        Rule::Rank => rank_phrase(broken.kind),
-        Rule::Length => "each axis must have a length of 1 to 4,096",
-        Rule::Count => "a layout must have 1 to 65,536 places",
-        Rule::Axes => "the axes of a diagonal layout must be of one length",
-        Rule::Pool => "each place must have an entry for each axis",
-        Rule::Inside => "each place must be inside the shape",
-        Rule::Order => "each place must come before the next one",
+        LayoutKind::Dense => 0,
+        LayoutKind::Diagonal | LayoutKind::Sparse => 1,
     }
 }
 
 impl fmt::Display for Broken {
     fn fmt<W: fmt::Write>(&self, f: &mut fmt::Formatter<W>) -> fmt::Result {
-        let phrase = rule_phrase(*self);
-        write!(f, "{phrase}")
+        let Broken { kind, rule } = *self;
+        match rule {
+            Rule::Room => write!(f, "there is no room for so many layouts"),
+            Rule::Kind => write!(f, "there can be no layout of this kind here"),
+            Rule::Rank => write!(
+                f,
+                "a {kind} layout must have {} to 4 axes",
+                least_rank(kind)
+            ),
+            Rule::Length => write!(f, "each axis must have a length of 1 to 4,096"),
+            Rule::Count => write!(f, "a layout must have 1 to 65,536 places"),
+            Rule::Axes => write!(f, "the axes of a diagonal layout must be of one length"),
+            Rule::Pool => write!(f, "each place must have an entry for each axis"),
+            Rule::Inside => write!(f, "each place must be inside the shape"),
+            Rule::Order => write!(f, "each place must come before the next one"),
+        }
     }
 }
 

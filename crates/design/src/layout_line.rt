@@ -1,13 +1,12 @@
 //! Layout lines.
 ghost use Rattle.std.specs.Prelude.{◌≡◌, ◌≤◌, [], ◌∷◌, IfOk, if◌then◌else◌, codes, OnOk};
-ghost use Rattle.design.specs.Keywords.{kind_word};
+ghost use Rattle.layout.specs.Words.{kind_word};
 ghost use Rattle.design.specs.Lines.{unread, Pooled, PlacesSaid, LayoutSaid};
 
 use crate::fault::{Expected, Fault, Odd, What};
-use crate::names::kind_of;
 use crate::number::first_four;
 use crate::words::Words;
-use layout::kind::LayoutKind;
+use layout::kind::{LayoutKind, UnknownKind};
 use std::alloc::Global;
 use table::record::LayoutRecord;
 
@@ -22,9 +21,9 @@ fn read_kind<'a>(words: &mut Words<'a>) -> Result<LayoutKind, Fault<'a>>
     ensures { IfOk result (λ k. unread words.old ≡ kind_word k ∷ unread words.new) }
 {
     let word = words.word(Expected::Kind)?;
-    match kind_of(word) {
-        Some(kind) => Ok(kind),
-        None => Err(words.fault(What::Word(word, Odd::Unknown), Expected::Kind)),
+    match word.parse::<LayoutKind>() {
+        Ok(kind) => Ok(kind),
+        Err(UnknownKind) => Err(words.fault(What::Word(word, Odd::Unknown), Expected::Kind)),
     }
 }
 
@@ -87,19 +86,11 @@ fn read_rest<'a>(
 ) -> Result<usize, Fault<'a>>
     ensures { IfOk result (λ count. PlacesSaid kind (if colon then codes ":" ∷ unread words.old else []) rank count pool.old.items pool.new.items) }
 {
-    match kind {
-        LayoutKind::Dense | LayoutKind::Diagonal => {
-            if colon {
-                return Err(words.fault(What::Word(":", Odd::OutOfPlace), Expected::End));
-            }
-            Ok(0)
-        }
-        LayoutKind::Sparse => {
-            if !colon {
-                return Err(words.fault(What::End, Expected::Colon));
-            }
-            read_places(words, rank, pool)
-        }
+    match (kind, colon) {
+        (LayoutKind::Sparse, true) => read_places(words, rank, pool),
+        (LayoutKind::Sparse, false) => Err(words.fault(What::End, Expected::Colon)),
+        (LayoutKind::Dense | LayoutKind::Diagonal, true) => Err(words.stray_colon()),
+        (LayoutKind::Dense | LayoutKind::Diagonal, false) => Ok(0),
     }
 }
 

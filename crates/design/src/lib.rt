@@ -14,7 +14,6 @@ pub mod ask;
 pub mod command;
 pub mod fault;
 pub mod layout_line;
-pub mod names;
 pub mod number;
 pub mod question_line;
 pub mod read;

@@ -1,6 +1,7 @@
 //! Words read as decimal numbers.
 ghost use Rattle.std.specs.Prelude.{◌≡◌, Result, slice_index_or};
 ghost use Rattle.std.specs.declared.num.ParseIntError.{ParseIntError};
+ghost use Rattle.std.specs.Str.Parse.{error_kind};
 ghost use Rattle.design.specs.Numbers.{blame, blamed, four};
 
 use std::num::{IntErrorKind, ParseIntError};
@@ -15,13 +16,15 @@ pub enum NumberFault {
     OutOfRange,
 }
 
-fn fault_of(kind: IntErrorKind) -> NumberFault
-    ensures { result ≡ blame kind }
-{
-    match kind {
-        IntErrorKind::PosOverflow | IntErrorKind::NegOverflow => NumberFault::OutOfRange,
-        IntErrorKind::Empty | IntErrorKind::InvalidDigit | IntErrorKind::Zero =>
-            NumberFault::NoNumber,
+impl From<ParseIntError> for NumberFault {
+    ghost from_gives = { λ e fault. fault ≡ blame (error_kind e) };
+
+    fn from(e: ParseIntError) -> NumberFault {
+        match e.kind() {
+            IntErrorKind::PosOverflow | IntErrorKind::NegOverflow => NumberFault::OutOfRange,
+            IntErrorKind::Empty | IntErrorKind::InvalidDigit | IntErrorKind::Zero =>
+                NumberFault::NoNumber,
+        }
     }
 }
 
@@ -29,10 +32,13 @@ fn fault_of(kind: IntErrorKind) -> NumberFault
 pub fn number<N: FromStr<Err = ParseIntError>>(word: &str) -> Result<N, NumberFault>
     ensures { (p : Result N ParseIntError) × N.from_str_gives word.now p × (result ≡ blamed p) }
 {
-    match word.parse::<N>() {
-        Ok(n) => Ok(n),
-        Err(e) => Err(fault_of(*e.kind())),
-    }
+    Ok(word.parse::<N>()?)
+}
+
+fn item_or<T: Copy>(items: &[T], i: usize, beyond: T) -> T
+    ensures { result ≡ slice_index_or items.now i beyond }
+{
+    items.get(i).copied().unwrap_or(beyond)
 }
 
 /// The first four of some items, and `beyond` where there are fewer.
@@ -45,10 +51,4 @@ pub fn first_four<T: Copy>(items: &[T], beyond: T) -> [T; 4]
         item_or(items, 2, beyond),
         item_or(items, 3, beyond),
     ]
-}
-
-fn item_or<T: Copy>(items: &[T], i: usize, beyond: T) -> T
-    ensures { result ≡ slice_index_or items.now i beyond }
-{
-    if i < items.len() { items[i] } else { beyond }
 }

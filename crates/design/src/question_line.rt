@@ -1,9 +1,9 @@
 //! Question lines.
 ghost use Rattle.std.specs.Prelude.{◌≡◌, IfOk};
-ghost use Rattle.design.specs.Lines.{unread, EntriesSaid, LookupSaid, PairSaid, TranslationSaid};
+ghost use Rattle.design.specs.Lines.{unread, EntriesSaid, LookupAsked, PairSaid, TranslationAsked};
 
-use crate::ask::{Ask, Entries};
-use crate::fault::{Expected, Fault, Odd, What};
+use crate::ask::{Ask, Entries, Lookup};
+use crate::fault::{Expected, Fault, What};
 use crate::number::first_four;
 use crate::words::Words;
 use std::alloc::Global;
@@ -14,7 +14,7 @@ fn read_entries<'a>(heap: Global, words: &mut Words<'a>) -> Result<Entries, Faul
 {
     let numbers = words.numbers::<i64>(heap, Expected::IndexEntry)?;
     if numbers.colon {
-        return Err(words.fault(What::Word(":", Odd::OutOfPlace), Expected::End));
+        return Err(words.stray_colon());
     }
     let count = numbers.values.len();
     if count > 4 {
@@ -25,12 +25,16 @@ fn read_entries<'a>(heap: Global, words: &mut Words<'a>) -> Result<Entries, Faul
 }
 
 /// Reads a lookup after its first word: a layout and an index.
-pub fn read_lookup<'a>(heap: Global, words: &mut Words<'a>) -> Result<(usize, Entries), Fault<'a>>
-    ensures { IfOk result (λ q. LookupSaid (unread words.old) q.0 q.1) }
+pub fn read_lookup<'a>(heap: Global, words: &mut Words<'a>, how: Lookup) -> Result<Ask, Fault<'a>>
+    ensures { IfOk result (LookupAsked how (unread words.old)) }
 {
     let layout = words.number(Expected::Layout)?;
     let entries = read_entries(heap, words)?;
-    Ok((layout, entries))
+    Ok(Ask::Lookup {
+        how,
+        layout,
+        entries,
+    })
 }
 
 /// Reads the two numbers of a line after its first word.
@@ -48,15 +52,17 @@ pub fn read_pair<'a>(
 }
 
 /// Reads a translation after its first word: source, via and target, and the start.
-pub fn read_translation<'a>(
-    heap: Global,
-    words: &mut Words<'a>,
-) -> Result<(usize, usize, usize, Entries), Fault<'a>>
-    ensures { IfOk result (λ q. TranslationSaid (unread words.old) q.0 q.1 q.2 q.3) }
+pub fn read_translation<'a>(heap: Global, words: &mut Words<'a>) -> Result<Ask, Fault<'a>>
+    ensures { IfOk result (TranslationAsked (unread words.old)) }
 {
     let source = words.number(Expected::Layout)?;
     let via = words.number(Expected::Layout)?;
     let target = words.number(Expected::Layout)?;
     let start = read_entries(heap, words)?;
-    Ok((source, via, target, start))
+    Ok(Ask::Trans {
+        source,
+        via,
+        target,
+        start,
+    })
 }

@@ -3,8 +3,8 @@ ghost use Rattle.std.specs.Prelude.{◌≡◌, ℕ, List, IfOk, OnOk};
 ghost use Rattle.design.specs.Designs.{contents, nothing, uncommented as code_of, Asked, LayoutAdded, QuestionAdded, LineAdded, DesignSaid};
 ghost use Rattle.design.specs.Lines.{unread};
 
-use crate::ask::{Ask, Question};
-use crate::command::{Command, command_of};
+use crate::ask::{Ask, Lookup, Question};
+use crate::command::{Command, UnknownCommand};
 use crate::fault::{Expected, Fault, Odd, What};
 use crate::layout_line::{LayoutLine, read_layout};
 use crate::question_line::{read_lookup, read_pair, read_translation};
@@ -40,14 +40,8 @@ fn read_ask<'a>(
     ensures { IfOk result (Asked command (unread words.old)) }
 {
     match command {
-        Command::Find => {
-            let (layout, entries) = read_lookup(heap, words)?;
-            Ok(Ask::Find { layout, entries })
-        }
-        Command::Number => {
-            let (layout, entries) = read_lookup(heap, words)?;
-            Ok(Ask::Number { layout, entries })
-        }
+        Command::Find => read_lookup(heap, words, Lookup::Wide),
+        Command::Number => read_lookup(heap, words, Lookup::Strict),
         Command::Place => {
             let (layout, number) = read_pair(words, Expected::Layout, Expected::Place)?;
             Ok(Ask::Place { layout, number })
@@ -56,15 +50,7 @@ fn read_ask<'a>(
             let (source, via) = read_pair(words, Expected::Layout, Expected::Layout)?;
             Ok(Ask::From { source, via })
         }
-        Command::Trans => {
-            let (source, via, target, start) = read_translation(heap, words)?;
-            Ok(Ask::Trans {
-                source,
-                via,
-                target,
-                start,
-            })
-        }
+        Command::Trans => read_translation(heap, words),
         _ => Err(words.fault(What::Word(word, Odd::Unread), Expected::Command)),
     }
 }
@@ -109,13 +95,16 @@ impl<'a> Design<'a> {
         let Some(word) = words.next_word() else {
             return Ok(());
         };
-        match command_of(word) {
-            Some(Command::Layout) => self.add_layout(heap, line, &mut words),
-            Some(command) => {
+        match word.parse::<Command>() {
+            Ok(Command::Layout) => self.add_layout(heap, line, &mut words),
+            Ok(command) => {
                 let ask = read_ask(heap, &mut words, word, command)?;
                 self.add_question(line, text, ask)
             }
-            None => Err(words.fault(What::Word(word, Odd::Unknown), Expected::Command)),
+            Err(UnknownCommand) => Err(words.fault(
+                What::Word(word, Odd::Unknown),
+                Expected::Command,
+            )),
         }
     }
 }

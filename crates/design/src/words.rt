@@ -32,6 +32,15 @@ pub struct Numbers<N> {
     pub colon: bool,
 }
 
+/// Why a word that is no number in range does not fit.
+fn odd_number(word: &str, fault: NumberFault) -> Odd {
+    match (fault, word) {
+        (NumberFault::OutOfRange, _) => Odd::OutOfRange,
+        (NumberFault::NoNumber, ":" | ",") => Odd::OutOfPlace,
+        (NumberFault::NoNumber, _) => Odd::NoNumber,
+    }
+}
+
 impl<'a> Words<'a> {
     /// The words of `text`, which is line `line` of its design.
     pub fn new(line: usize, text: &'a str) -> Words<'a>
@@ -61,15 +70,20 @@ impl<'a> Words<'a> {
         }
     }
 
+    /// The fault of a `:` where the line has to end.
+    pub(crate) fn stray_colon(&self) -> Fault<'a>
+        ensures { Blames self.now.line wanted.End result }
+    {
+        self.fault(What::Word(":", Odd::OutOfPlace), Expected::End)
+    }
+
     /// The next word, which has to be there.
     pub fn word(&mut self, expected: Expected) -> Result<&'a str, Fault<'a>>
         ensures takes { MatchResult result (λ w. left self.old.rest ≡ w.now ∷ left self.new.rest) (λ f. (left self.old.rest ≡ []) × (f ≡ Line self.old.line told.End expected)) }
         ensures line { self.new.line ≡ self.old.line }
     {
-        match self.next_word() {
-            Some(word) => Ok(word),
-            None => Err(self.fault(What::End, expected)),
-        }
+        let word = self.next_word();
+        word.ok_or(self.fault(What::End, expected))
     }
 
     /// The number that a word of this line writes.
@@ -82,14 +96,7 @@ impl<'a> Words<'a> {
     {
         match number(word) {
             Ok(n) => Ok(n),
-            Err(NumberFault::OutOfRange) => Err(self.fault(
-                What::Word(word, Odd::OutOfRange),
-                expected,
-            )),
-            Err(NumberFault::NoNumber) => match word {
-                ":" | "," => Err(self.fault(What::Word(word, Odd::OutOfPlace), expected)),
-                _ => Err(self.fault(What::Word(word, Odd::NoNumber), expected)),
-            },
+            Err(fault) => Err(self.fault(What::Word(word, odd_number(word, fault)), expected)),
         }
     }
 

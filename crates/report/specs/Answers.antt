@@ -1,20 +1,19 @@
 -- Facts of a design: one a layout, and then one a question.
 use Rattle.std.specs.Prelude.{ℕ, List, ◌++◌, map, length, codes, slice_index_or}
 use Rattle.std.specs.List.{range_with_len, flat_map}
-use Rattle.layout.specs.Answers.{shape_of, wide_asked, number_asked}
+use Rattle.layout.specs.Answers.{shape_of}
 use Rattle.layout.specs.Layouts.{Layout, blank}
 use Rattle.design.specs.declared.ask.Ask.{Ask}
 use Rattle.design.specs.declared.ask.Ask.TheVariants as ask
 use Rattle.design.specs.declared.ask.Question.{Question}
 use Rattle.design.specs.Texts.{words}
 use Rattle.report.specs.Facts.{before_blank, layout_fact, answer_fact}
-use Rattle.report.specs.Told.{looked_up, place_told}
+use Rattle.report.specs.Told.{lookup_told, place_told}
 use Rattle.report.specs.Translations.{from_told, trans_told}
 
 -- what a question is answered
 abbrev pub asked_fact : List Layout → Ask → List ℕ
-asked_fact ls (ask.Find n e) = answer_fact (looked_up (wide_asked ls n e.index))
-asked_fact ls (ask.Number n e) = answer_fact (looked_up (number_asked ls n e.index))
+asked_fact ls (ask.Lookup how n e) = answer_fact (lookup_told how ls n e.index)
 asked_fact ls (ask.Place n k) = answer_fact (place_told ls n k)
 asked_fact ls (ask.From s v) = from_told ls s v
 asked_fact ls (ask.Trans s v t e) = trans_told ls s v e.index t

@@ -1,13 +1,14 @@
 -- Facts as text: one a line.
-use Rattle.std.specs.Prelude.{ℕ, List, [], ◌∷◌, ◌++◌, map, take, codes, decimal}
+use Rattle.std.specs.Prelude.{ℕ, List, [], ◌∷◌, ◌++◌, map, take, Some, None, Ok, Err, Option, Result, codes, decimal}
 use Rattle.std.specs.List.{flat_map}
 use Rattle.std.specs.Fmt.{signed_decimal}
+use Rattle.layout.specs.declared.fault.LayoutFault.{LayoutFault}
 use Rattle.layout.specs.declared.fault.Report.{Report}
 use Rattle.layout.specs.declared.shape.Shape.{Shape}
 use Rattle.layout.specs.Faults.{reported}
-use Rattle.design.specs.Keywords.{kind_word, layer_word}
-use Rattle.report.specs.declared.answer.Answer.{Answer}
-use Rattle.report.specs.declared.answer.Answer.TheVariants.{Number, Place, Nothing, Refused}
+use Rattle.layout.specs.Words.{kind_word, layer_word}
+use Rattle.report.specs.declared.answer.Found.{Found}
+use Rattle.report.specs.declared.answer.Found.TheVariants.{Number, Place}
 
 -- texts with another between them
 abbrev pub separated : List ℕ → List (List ℕ) → List ℕ
@@ -31,8 +32,11 @@ layout_fact n s =
 abbrev pub refusal_fact : Report → List ℕ
 refusal_fact r = codes "refuse " ++ (decimal r.number ++ (codes " " ++ (layer_word r.layer ++ (codes " " ++ decimal r.place))))
 
-abbrev pub answer_fact : Answer → List ℕ
-answer_fact (Number n) = decimal n
-answer_fact (Place r x) = separated (codes " ") (map signed_decimal (take r x))
-answer_fact Nothing = codes "none"
-answer_fact (Refused f) = refusal_fact (reported f)
+abbrev pub found_fact : Found → List ℕ
+found_fact (Number n) = decimal n
+found_fact (Place r x) = separated (codes " ") (map signed_decimal (take r x))
+
+abbrev pub answer_fact : Result (Option Found) LayoutFault → List ℕ
+answer_fact (Ok (Some f)) = found_fact f
+answer_fact (Ok None) = codes "none"
+answer_fact (Err f) = refusal_fact (reported f)

@@ -25,8 +25,7 @@ layouts_of d = table_layouts (vec_items d.pool) (records (vec_items d.layouts))
 
 -- an index has an entry for each axis, where there is such a layout
 abbrev pub Matched : List Layout → Ask → Type 0
-Matched ls (ask.Find n e) = n < length ls → e.count ≡ rank (slice_index_or ls n blank)
-Matched ls (ask.Number n e) = n < length ls → e.count ≡ rank (slice_index_or ls n blank)
+Matched ls (ask.Lookup how n e) = n < length ls → e.count ≡ rank (slice_index_or ls n blank)
 Matched ls (ask.Place n k) = Unit {0}
 Matched ls (ask.From s v) = Unit {0}
 Matched ls (ask.Trans s v t e) = Unit {0}

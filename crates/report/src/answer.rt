@@ -1,65 +1,50 @@
 //! Answers to lookups.
 ghost use Rattle.std.specs.Prelude.{◌≡◌};
-ghost use Rattle.layout.specs.Answers.{wide_asked, number_asked};
-ghost use Rattle.report.specs.Told.{looked_up, place_told};
+ghost use Rattle.report.specs.Told.{lookup_told, place_found, place_told};
 
+use design::ask::Lookup;
 use layout::catalogue::Catalogue;
 use layout::fault::LayoutFault;
-use layout::find::find_nnz_index;
 use layout::index::Index;
+use layout::layout_ref::LayoutRef;
 
-/// What a catalogue answers a lookup.
+/// What a lookup finds.
 #[derive(Clone, Copy)]
-pub enum Answer {
+pub enum Found {
     /// The number of a place.
     Number(usize),
     /// A place: the first `rank` entries of an index.
     Place { rank: usize, index: Index },
-    /// The layout has no such place.
-    Nothing,
-    Refused(LayoutFault),
 }
 
-fn lookup_answer(r: Result<Option<usize>, LayoutFault>) -> Answer
-    ensures { result ≡ looked_up r }
+/// What is found in a layout, if it has such a place.
+pub type Answer = Result<Option<Found>, LayoutFault>;
+
+/// The number of an index.
+pub fn lookup_answer<C: Catalogue>(c: &C, how: Lookup, layout: usize, index: Index) -> Answer
+    ensures { result ≡ lookup_told how (C.layouts c.now) layout index }
 {
-    match r {
-        Ok(Some(n)) => Answer::Number(n),
-        Ok(None) => Answer::Nothing,
-        Err(fault) => Answer::Refused(fault),
-    }
+    let layout = LayoutRef::new(c, layout)?;
+    let number = match how {
+        Lookup::Wide => layout.find_nnz_index(index),
+        Lookup::Strict => layout.number(index),
+    };
+    Ok(number.map(Found::Number))
 }
 
-/// The wide lookup of an index.
-pub fn find_answer<C: Catalogue>(c: &C, layout: usize, index: Index) -> Answer
-    ensures { result ≡ looked_up (wide_asked (C.layouts c.now) layout index) }
+fn find_place<C: Catalogue>(layout: &LayoutRef<C>, number: usize) -> Option<Found>
+    ensures { result ≡ place_found layout.now number }
 {
-    lookup_answer(find_nnz_index(c, layout, index))
-}
-
-/// The strict lookup of an index.
-pub fn number_answer<C: Catalogue>(c: &C, layout: usize, index: Index) -> Answer
-    ensures { result ≡ looked_up (number_asked (C.layouts c.now) layout index) }
-{
-    lookup_answer(c.number(layout, index))
+    let index = layout.place(number)?;
+    Some(Found::Place {
+        rank: layout.rank(),
+        index,
+    })
 }
 
 /// The place with a number.
 pub fn place_answer<C: Catalogue>(c: &C, layout: usize, number: usize) -> Answer
     ensures { result ≡ place_told (C.layouts c.now) layout number }
 {
-    match c.shape(layout) {
-        Ok(shape) => {
-            let (index, there) = c.place(layout, number);
-            if there {
-                Answer::Place {
-                    rank: shape.rank,
-                    index,
-                }
-            } else {
-                Answer::Nothing
-            }
-        }
-        Err(fault) => Answer::Refused(fault),
-    }
+    Ok(find_place(&LayoutRef::new(c, layout)?, number))
 }

@@ -2,6 +2,7 @@
 #![tactic(auto)]
 
 pub mod answer;
+pub mod block;
 pub mod facts;
 pub mod picture;
 pub mod report;

@@ -1,87 +1,75 @@
 //! A report in plain words.
-use crate::answer::{Answer, find_answer, number_answer, place_answer};
+use crate::answer::{Answer, Found, lookup_answer, place_answer};
 use crate::picture::put_picture;
-use crate::text::put_joined;
+use crate::text::{first, put_joined, put_refused};
 use crate::words::{put_from_words, put_trans_words};
 use design::ask::{Ask, Entries, Question};
 use design::layout_line::LayoutLine;
-use design::names::{kind_name, layer_name};
 use layout::catalogue::Catalogue;
-use layout::fault::Report;
-use layout::index::Index;
+use layout::layout_ref::LayoutRef;
 use layout::shape::Shape;
-use std::alloc::Global;
-use std::fmt;
+use std::alloc::AllocError;
+use translation::route::Route;
 
-fn put_shape(out: &mut String, shape: Shape) -> fmt::Result {
+fn put_shape(out: &mut String, shape: Shape) -> Result<(), AllocError> {
     if shape.rank == 0 {
-        Ok(write!(out, "a scalar")?)
+        write!(out, "a scalar")
     } else {
-        put_joined(out, &shape.lengths, shape.rank, " x ")
+        put_joined(out, first(&shape.lengths, shape.rank), " x ")
     }
 }
 
 fn put_layout<C: Catalogue>(
     out: &mut String,
-    c: &C,
-    layout: usize,
+    number: usize,
     line: usize,
-    shape: Shape,
-) -> fmt::Result {
-    let kind = kind_name(shape.kind);
-    write!(out, "layout {layout} (line {line}): {kind}, ")?;
+    layout: &LayoutRef<C>,
+) -> Result<(), AllocError> {
+    let shape = layout.shape();
+    let kind = shape.kind;
+    write!(out, "layout {number} (line {line}): {kind}, ")?;
     put_shape(out, shape)?;
     match shape.count {
         1 => writeln!(out, ", 1 place")?,
         count => writeln!(out, ", {count} places")?,
     }
-    put_picture(out, c, layout, shape)
+    put_picture(out, layout)
 }
 
-fn put_index(out: &mut String, rank: usize, index: Index) -> fmt::Result {
+fn put_index(out: &mut String, index: &[i64]) -> Result<(), AllocError> {
     write!(out, "(")?;
-    put_joined(out, &index, rank, ", ")?;
-    Ok(write!(out, ")")?)
+    put_joined(out, index, ", ")?;
+    write!(out, ")")
 }
 
-fn put_lookup(out: &mut String, how: &str, layout: usize, entries: Entries) -> fmt::Result {
-    write!(out, "{how} lookup of ")?;
-    put_index(out, entries.count, entries.index)?;
-    Ok(write!(out, " in layout {layout}")?)
+fn put_entries(out: &mut String, entries: Entries) -> Result<(), AllocError> {
+    put_index(out, first(&entries.index, entries.count))
 }
 
-fn put_refusal(out: &mut String, report: Report) -> fmt::Result {
-    let number = report.number;
-    let layer = layer_name(report.layer);
-    let place = report.place;
-    Ok(write!(out, "refused ({number}, {layer}, place {place}): ")?)
-}
-
-fn put_answer(out: &mut String, layout: usize, answer: Answer) -> fmt::Result {
+fn put_answer(out: &mut String, layout: usize, answer: Answer) -> Result<(), AllocError> {
+    write!(out, ": ")?;
     match answer {
-        Answer::Number(n) => Ok(write!(out, ": place {n}")?),
-        Answer::Place { rank, index } => {
-            write!(out, ": ")?;
-            put_index(out, rank, index)
-        }
-        Answer::Nothing => Ok(write!(out, ": no place")?),
-        Answer::Refused(fault) => {
-            write!(out, ": ")?;
-            put_refusal(out, fault.report())?;
-            Ok(write!(out, "there is no layout {layout}")?)
+        Ok(Some(Found::Number(n))) => write!(out, "place {n}"),
+        Ok(Some(Found::Place { rank, index })) => put_index(out, first(&index, rank)),
+        Ok(None) => write!(out, "no place"),
+        Err(fault) => {
+            put_refused(out, fault.report())?;
+            write!(out, "there is no layout {layout}")
         }
     }
 }
 
-fn put_asked<C: Catalogue>(out: &mut String, heap: Global, c: &C, ask: Ask) -> fmt::Result {
+fn put_asked<C: Catalogue>(out: &mut String, c: &C, ask: Ask) -> Result<(), AllocError> {
     match ask {
-        Ask::Find { layout, entries } => {
-            put_lookup(out, "wide", layout, entries)?;
-            put_answer(out, layout, find_answer(c, layout, entries.index))
-        }
-        Ask::Number { layout, entries } => {
-            put_lookup(out, "strict", layout, entries)?;
-            put_answer(out, layout, number_answer(c, layout, entries.index))
+        Ask::Lookup {
+            how,
+            layout,
+            entries,
+        } => {
+            write!(out, "{how} lookup of ")?;
+            put_entries(out, entries)?;
+            write!(out, " in layout {layout}")?;
+            put_answer(out, layout, lookup_answer(c, how, layout, entries.index))
         }
         Ask::Place { layout, number } => {
             write!(out, "place {number} of layout {layout}")?;
@@ -98,40 +86,45 @@ fn put_asked<C: Catalogue>(out: &mut String, heap: Global, c: &C, ask: Ask) -> f
             start,
         } => {
             write!(out, "from layout {source} by way of layout {via} to ")?;
-            put_index(out, start.count, start.index)?;
+            put_entries(out, start)?;
             write!(out, " in layout {target}: ")?;
-            put_trans_words(out, heap, c, source, via, start.index, target)
+            let start = start.index;
+            let route = Route {
+                source,
+                via,
+                start,
+                target,
+            };
+            put_trans_words(out, c, route)
         }
     }
 }
 
 fn put_question<C: Catalogue>(
     out: &mut String,
-    heap: Global,
     c: &C,
     question: Question,
-) -> fmt::Result {
+) -> Result<(), AllocError> {
     let line = question.line;
     write!(out, "line {line}: ")?;
-    put_asked(out, heap, c, question.ask)?;
-    Ok(writeln!(out)?)
+    put_asked(out, c, question.ask)?;
+    writeln!(out)
 }
 
 /// Writes each layout with its line and a picture, and then each question with its answer.
 pub fn put_report<C: Catalogue>(
     out: &mut String,
-    heap: Global,
     c: &C,
     lines: &[LayoutLine],
     questions: &[Question],
-) -> fmt::Result {
-    for (layout, line) in lines.iter().enumerate() {
-        if let Ok(shape) = c.shape(layout) {
-            put_layout(out, c, layout, line.line, shape)?;
+) -> Result<(), AllocError> {
+    for (number, line) in lines.iter().enumerate() {
+        if let Ok(layout) = LayoutRef::new(c, number) {
+            put_layout(out, number, line.line, &layout)?;
         }
     }
     for question in questions {
-        put_question(out, heap, c, *question)?;
+        put_question(out, c, *question)?;
     }
     Ok(())
 }

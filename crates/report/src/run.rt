@@ -15,6 +15,7 @@ use design::layout_line::LayoutLine;
 use design::read::{Design, read_design};
 use layout::catalogue::Catalogue;
 use layout::fault::{LayoutFault, Rule};
+use layout::layout_ref::LayoutRef;
 use std::alloc::{AllocError, Global};
 use table::record::LayoutRecord;
 use table::table::Table;
@@ -36,19 +37,18 @@ fn check_entries<'a, C: Catalogue>(
 ) -> Result<(), Fault<'a>>
     ensures { MatchResult result (λ _. layout < length (C.layouts c.now) → entries.count ≡ rank (slice_index_or (C.layouts c.now) layout blank)) (λ _. (layout < length (C.layouts c.now) → entries.count ≡ rank (slice_index_or (C.layouts c.now) layout blank)) → ⊥) }
 {
-    match c.shape(layout) {
-        Ok(shape) => {
-            if entries.count == shape.rank {
-                Ok(())
-            } else {
-                Err(Fault::Line {
-                    line,
-                    what: What::Entries(entries.count),
-                    expected: Expected::Entries(shape.rank),
-                })
-            }
-        }
-        Err(_) => Ok(()),
+    let Ok(layout) = LayoutRef::new(c, layout) else {
+        return Ok(());
+    };
+    let rank = layout.rank();
+    if entries.count == rank {
+        Ok(())
+    } else {
+        Err(Fault::Line {
+            line,
+            what: What::Entries(entries.count),
+            expected: Expected::Entries(rank),
+        })
     }
 }
 
@@ -57,43 +57,30 @@ fn check_question<'a, C: Catalogue>(c: &C, question: Question<'a>) -> Result<(),
     ensures { MatchResult result (λ _. Matched (C.layouts c.now) question.entry.ask) (λ _. Matched (C.layouts c.now) question.entry.ask → ⊥) }
 {
     match question.ask {
-        Ask::Find { layout, entries } => check_entries(c, question.line, layout, entries),
-        Ask::Number { layout, entries } => check_entries(c, question.line, layout, entries),
-        Ask::Place {
-            layout: _,
-            number: _,
-        }
-        | Ask::From { source: _, via: _ }
-        | Ask::Trans {
-            source: _,
-            via: _,
-            target: _,
-            start: _,
-        } => Ok(()),
+        Ask::Lookup {
+            layout,
+            entries,
+            ..
+        } => check_entries(c, question.line, layout, entries),
+        Ask::Place { .. } | Ask::From { .. } | Ask::Trans { .. } => Ok(()),
     }
 }
 
 fn put_answers<'a, C: Catalogue>(
     out: &mut String,
-    heap: Global,
     c: &C,
     design: &Design<'a>,
     form: Form,
 ) -> Result<(), Fault<'a>>
     ensures { OnOk result (Told form (C.layouts c.now) design.now.questions.items (string_bytes out.old) (string_bytes out.new)) }
 {
-    for question in design.questions.iter() {
+    let questions = design.questions.as_slice();
+    for question in questions {
         check_question(c, *question)?;
     }
     match form {
-        Form::Report => put_report(
-            out,
-            heap,
-            c,
-            design.layouts.as_slice(),
-            design.questions.as_slice(),
-        )?,
-        Form::Facts => put_facts(out, heap, c, design.questions.as_slice())?,
+        Form::Report => put_report(out, c, design.layouts.as_slice(), questions)?,
+        Form::Facts => put_facts(out, c, questions)?,
     }
     Ok(())
 }
@@ -102,11 +89,7 @@ fn put_answers<'a, C: Catalogue>(
 fn collect_records(heap: Global, lines: &[LayoutLine]) -> Result<Vec<LayoutRecord>, AllocError>
     ensures { IfOk result (λ v. v.items ≡ records_of lines.now) }
 {
-    let mut records = Vec::new(heap);
-    for line in lines {
-        records.push(line.layout)?;
-    }
-    Ok(records)
+    lines.iter().map(|line| line.layout).collect(heap)
 }
 
 /// The fault of a layout that breaks a rule, with its line.
@@ -125,8 +108,8 @@ fn broken_layout<'a>(lines: &[LayoutLine], layout: usize, rule: Rule) -> Fault<'
     }
 }
 
-/// The catalogue of the records, or the fault of the first layout that breaks a rule.
-fn catalogue_of<'a, 'x>(
+/// The catalogue of the layouts of a design, unless one breaks a rule: the first is told.
+fn table_of<'a, 'x>(
     lines: &[LayoutLine],
     records: &'x [LayoutRecord],
     pool: &'x [u16],
@@ -150,9 +133,9 @@ fn answers<'a, 'x>(
     requires { records.now ≡ records_of design.now.layouts.items }
     ensures { IfOk result (λ s. Told form (layouts_of design.now) design.now.questions.items [] (string_bytes s)) }
 {
-    let table = catalogue_of(design.layouts.as_slice(), records, design.pool.as_slice())?;
+    let table = table_of(design.layouts.as_slice(), records, design.pool.as_slice())?;
     let mut out = String::new(heap);
-    put_answers(&mut out, heap, &table, design, form)?;
+    put_answers(&mut out, &table, design, form)?;
     Ok(out)
 }
 

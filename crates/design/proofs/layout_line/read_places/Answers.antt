@@ -1,10 +1,9 @@
-use Rattle.std.proofs.Common.{◌≡◌, [], ◌∷◌, codes, refl, subst, arith, rules}
+use Rattle.std.proofs.Common.{◌≡◌, ◌∷◌, [], codes, refl, subst, arith, rules}
 use Rattle.std.specs.Str.Parse.{ParsesUnsigned}
 use Rattle.std.proofs.lemmas.Slice.{pushed}
 use Rattle.std.proofs.lemmas.Slice.Eq.{slice_eq-Decides}
 use Rattle.std.proofs.lemmas.Bool.Decides.{Decides-eqb}
-use Rattle.design.specs.Lines.{unread}
-use Rattle.design.proofs.Listing.{none_yet, few, one_entry, one_comma, unlisted}
+use Rattle.design.proofs.Listing.{none_yet, few, one_entry, one_comma}
 use Rattle.design.proofs.Said.{natural_read}
 use Rattle.design.proofs.layout_line.read_places.Goals as goal
 
@@ -32,11 +31,6 @@ loop-word-preserved c =
       omega arith,
       one_entry c.loop-word.invariant.2 w e _ _ took is (pushed (e ∷ []) refl c.in_ok-push.was c.push.ensures.items),
     )
-
-pub returns-then-entries-eq0 : goal.returns-then-entries-eq0
-returns-then-entries-eq0 c =
-    let none : unread c.loop-word.words ≡ [] = search rules in
-    unlisted c.loop-word.invariant.2 none c.if-place-eq0.true c.if-entries-eq0.true
 
 pub overflow_add-result : goal.overflow_add-result
 overflow_add-result c = let f = few c.loop-word.invariant.2 c.loop-word.invariant.0 c.in_ok-check_place-2.ensures in search rules

@@ -1,5 +1,4 @@
-use Rattle.std.proofs.Common.{[], ◌∷◌, ◌++◌, string_bytes, sym, ap, ◌∙◌, append_assoc, append-nil}
-use Rattle.std.specs.List.{flat_map}
+use Rattle.std.proofs.Common.{[], ◌∷◌, ◌++◌, sym, ap, ◌∙◌, append_assoc}
 use Rattle.std.proofs.lemmas.List.{flat_map_more}
 use Rattle.report.specs.Facts.{before_blank}
 use Rattle.report.proofs.facts.put_words.Goals as goal
@@ -12,9 +11,3 @@ loop-word-preserved c =
       old.1 ∙ ap (λ l. old.0 ++ l) c.in-Some.ensures.takes ∙ sym (append_assoc old.0 (word ∷ []) _),
       c.in_ok-write.ensures.bytes ∙ ap (λ l. l ++ before_blank word) old.2 ∙ flat_map_more before_blank _ old.0 word,
     )
-
-pub returns : goal.returns
-returns c =
-    let old = c.loop-word.invariant in
-    let all = sym c.new-words.ensures.0 ∙ old.1 ∙ ap (λ l. old.0 ++ l) c.in_default.ensures.takes.0 ∙ append-nil old.0 in
-    old.2 ∙ ap (λ l. string_bytes c.args.out.now ++ flat_map before_blank l) (sym all)

@@ -1,25 +1,29 @@
-use Rattle.std.proofs.Common.{◌≡◌, cond, ltb, [], ◌++◌, map, take, string_bytes, ap, ◌∙◌, arith}
+use Rattle.std.proofs.Common.{◌++◌, map, string_bytes, sym, ap, ◌∙◌, append_assoc}
+use Rattle.std.specs.List.{flat_map}
+use Rattle.std.proofs.lemmas.List.{take_all}
 use Rattle.report.specs.Facts.{separated}
-use Rattle.report.proofs.Texts.{all_taken, more_separated, written}
+use Rattle.report.proofs.Texts.{joined, more_joined, written}
 use Rattle.report.proofs.text.put_joined.Goals as goal
 
-pub returns-then-i-count : goal.returns-then-i-count
-returns-then-i-count g c show shows =
-    let same : c.loop-i.i ≡ c.args.count = omega (arith, c.loop-i.invariant.0) in
-    c.loop-i.invariant.1 show shows ∙ ap (λ n. string_bytes c.args.out.now ++ separated c.args.between.now (map show (take n c.args.items.now))) same
-
-pub loop-i-preserved : goal.loop-i-preserved
-loop-i-preserved g c = (
-  omega arith,
-  λ show shows.
-      let gap = c.gap_before-gap.result.now in
-      let item = c.index-items-i.result in
-      let w = written (string_bytes c.loop-i.out) (string_bytes c.write.new.self) (gap ++ show item) c.in_ok-write.ensures.bytes (simp shows) in
-      more_separated show c.args.between.now c.args.items.now c.loop-i.i item _ _ _ c.loop-i-test.true (c.loop-i.invariant.1 show shows)
-      (w ∙ ap (λ l. string_bytes c.loop-i.out ++ (l ++ show item)) c.gap_before-gap.ensures ∙ ap (λ x. string_bytes c.loop-i.out ++ (cond (ltb 0 c.loop-i.i) c.args.between.now [] ++ show x)) c.index-items-i.is),
-)
+pub loop-item-preserved : goal.loop-item-preserved
+loop-item-preserved g c show shows =
+    let between = c.args.between.now in
+    let item = c.item-item.result in
+    let out = string_bytes c.loop-item.out in
+    let w = written out (string_bytes c.write-in-loop-item.new.self) (between ++ show item) c.in_ok-write-2.ensures.bytes (simp shows) in
+    more_joined (λ x. between ++ show x) c.in-Some.rest.now c.loop-item.item-index item _ _ _ c.loop-item-test.true (c.loop-item.invariant show shows) (w ∙ ap (λ x. out ++ (between ++ show x)) c.item-item.is)
 
 pub returns : goal.returns
 returns g c show shows =
-    c.loop-i.invariant.1 show shows
-    ∙ ap (λ l. string_bytes c.args.out.now ++ separated c.args.between.now (map show l)) (all_taken c.args.items.now c.loop-i.i c.args.count c.loop-i.invariant.0 c.loop-i-test.false)
+    let between = c.args.between.now in
+    let head = c.in-Some.head.now in
+    let rest = c.in-Some.rest.now in
+    let out = string_bytes c.args.out.now in
+    let first = string_bytes c.write.new.self in
+    let w = written out first (show head) c.in_ok-write.ensures.bytes (shows head) in
+    c.loop-item.invariant show shows
+    ∙ ap (λ l. first ++ flat_map (λ x. between ++ show x) l) (take_all c.loop-item.item-index rest c.loop-item-test.false)
+    ∙ ap (λ l. l ++ flat_map (λ x. between ++ show x) rest) w
+    ∙ append_assoc out (show head) _
+    ∙ ap (λ l. out ++ l) (sym (joined show between head rest))
+    ∙ ap (λ l. out ++ separated between (map show l)) (sym c.in-Some.ensures.cases.0)
