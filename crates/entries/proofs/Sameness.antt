@@ -1,15 +1,14 @@
 -- The tests of equal layouts decide.
-use Rattle.std.proofs.Common.{◌≡◌, ℕ, Bool, true, false, List, [], ◌∷◌, get_or, None, Decides, sym, refl, ap, ◌∙◌}
+use Rattle.std.proofs.Common.{◌≡◌, ℕ, Bool, true, false, List, [], ◌∷◌, Decides, sym, refl, ap, ◌∙◌}
 use Rattle.std.proofs.lemmas.Slice.Eq.{bytes_eq-Decides}
 use Rattle.std.proofs.lemmas.Bool.{and_parts, and_from, false≢true}
 use Rattle.layout.specs.declared.kind.LayoutKind.{LayoutKind}
 use Rattle.layout.specs.declared.kind.LayoutKind.TheVariants.{Dense, Diagonal, Sparse}
 use Rattle.layout.specs.Places.{Place, same}
-use Rattle.layout.specs.Layouts.{Layout, blank, rank}
-use Rattle.names.specs.Reading.{packed, permutation}
+use Rattle.layout.specs.Layouts.{Layout}
 use Rattle.layout.proofs.Finding.{same_true, same_self}
 use Rattle.names.specs.Tables.{NoTable}
-use Rattle.entries.specs.Needed.{same_kind, same_places, same_layout, own_number, table_by, named_table}
+use Rattle.entries.specs.Needed.{same_kind, same_places, same_layout, own_number}
 
 kind_same : (k l : LayoutKind) → same_kind k l ≡ true → k ≡ l
 kind_same Dense Dense h = refl
@@ -65,7 +64,3 @@ own_decided l s slots t d =
     same_test t (own_number l s slots) (NoTable l s slots) d
     (λ h. let a = and_parts _ _ h in (layout_same l s a.0, a.1))
     (λ n. and_from _ _ (layout_self l s n.0) n.1)
-
--- a layout that is not there has no table
-pub no_layout : (ls : List Layout) (source : ℕ) (block name : List ℕ) (n : ℕ) → get_or ls n blank ≡ blank → None ≡ named_table ls source block name n
-no_layout ls source block name n e = ap (λ (l : Layout). table_by l.kind (own_number (get_or ls n blank) (get_or ls source blank) (permutation (rank (get_or ls n blank)) block name)) (record { layout = n; source = source; permutation = packed (permutation (rank (get_or ls n blank)) block name) })) (sym e)

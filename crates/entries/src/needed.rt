@@ -9,6 +9,7 @@ ghost use Rattle.entries.specs.Needed.{own_number, unless_own, named_table, vari
 use expression::node::{Letters, Node, VariableNumber};
 use layout::catalogue::Catalogue;
 use layout::kind::LayoutKind;
+use layout::layout_ref::LayoutRef;
 use names::binary_table::needs_no_table;
 use names::permutation::Permutation;
 use names::variable::{VariableRecord, described};
@@ -62,14 +63,12 @@ fn table_of_name<C: Catalogue>(
     requires { source < length (C.layouts c.now) }
     ensures { result ≡ named_table (C.layouts c.now) source (letters_of block) (letters_of name) layout }
 {
-    match c.shape(layout) {
-        Ok(shape) => match shape.kind {
-            LayoutKind::Dense => None,
-            LayoutKind::Diagonal | LayoutKind::Sparse => table_of_rank(
-                c, layout, shape.rank, source, block, name,
-            ),
-        },
-        Err(_) => None,
+    let shape = LayoutRef::new(c, layout).ok()?.shape();
+    match shape.kind {
+        LayoutKind::Dense => None,
+        LayoutKind::Diagonal | LayoutKind::Sparse => {
+            table_of_rank(c, layout, shape.rank, source, block, name)
+        }
     }
 }
 

@@ -1,6 +1,5 @@
 //! Entries that are appended to the index table.
 ghost use Rattle.std.specs.Prelude.{◌≡◌, ℕ, ◌+◌, ◌<◌, ◌≤◌, length, get_or, pos, ◌≤ℤ◌, ◌<ℤ◌, slice_index_or, slice_set};
-ghost use Rattle.layout.specs.Layouts.{AllValid, blank, rank as rank_of, count as count_of};
 ghost use Rattle.std.proofs.Math.Seq.{paste};
 ghost use Rattle.records.specs.Written.{written};
 ghost use Rattle.entries.specs.Fresh.{no_key, table_of, tables, records_from};
@@ -8,6 +7,7 @@ ghost use Rattle.entries.specs.Places.{place_entries};
 
 use layout::catalogue::Catalogue;
 use layout::index::Index;
+use layout::layout_ref::LayoutRef;
 use names::binary_table::to_binary_data_layout;
 use records::record::{BinaryRecord, TableKey};
 
@@ -84,26 +84,15 @@ fn write_place(place: Index, rank: usize, indices: &mut [i32], at: usize) -> usi
 }
 
 /// Appends the places of a layout, entry by entry, and answers where they end.
-pub fn write_places<C: Catalogue>(
-    c: &C,
-    layout: usize,
-    rank: usize,
-    count: usize,
-    indices: &mut [i32],
-    at: usize,
-) -> usize
-    requires valid { AllValid (C.layouts c.now) }
-    requires known { layout < length (C.layouts c.now) }
-    requires rank { rank ≡ rank_of (slice_index_or (C.layouts c.now) layout blank) }
-    requires count { count ≡ count_of (slice_index_or (C.layouts c.now) layout blank) }
-    requires room { at + length (place_entries (slice_index_or (C.layouts c.now) layout blank)) ≤ length indices.old }
-    ensures end { result ≡ at + length (place_entries (slice_index_or (C.layouts c.now) layout blank)) }
-    ensures entries { indices.new ≡ written indices.old at (place_entries (slice_index_or (C.layouts c.now) layout blank)) }
+pub fn write_places<C: Catalogue>(layout: &LayoutRef<C>, indices: &mut [i32], at: usize) -> usize
+    requires { at + length (place_entries layout.now) ≤ length indices.old }
+    ensures end { result ≡ at + length (place_entries layout.now) }
+    ensures entries { indices.new ≡ written indices.old at (place_entries layout.now) }
 {
+    let rank = layout.rank();
     let mut end = at;
-    for k in 0..count {
-        let (place, _) = c.place(layout, k);
-        end = write_place(place, rank, indices, end);
+    for k in 0..layout.count() {
+        end = write_place(layout.place_or_zeros(k), rank, indices, end);
     }
     end
 }

@@ -5,7 +5,8 @@ use expression::root_host::RootHost;
 use layout::fault::Layer;
 use layout::kind::LayoutKind;
 use names::check::expression_fault;
-use names::evaluate::evaluate_at;
+use names::evaluate::{Evaluation, evaluate_at};
+use names::scope::{Block, Scope};
 use names::variable::{Class, VariableRecord};
 use std::process::Abort;
 use std::test::Fail;
@@ -73,6 +74,13 @@ pub fn letters(count: u8, codes: &[u8; 4]) -> Letters {
     }
 }
 
+pub fn block(count: u8, codes: &[u8; 4], source: usize) -> Block {
+    Block {
+        letters: letters(count, codes),
+        source,
+    }
+}
+
 fn name(variable: VariableNumber, count: u8, codes: &[u8; 4]) -> Node {
     Node::Name {
         variable,
@@ -80,19 +88,29 @@ fn name(variable: VariableNumber, count: u8, codes: &[u8; 4]) -> Node {
     }
 }
 
+// In the block of some letters over a layout.
+fn value_in(
+    t: &Table,
+    opened: Option<VariableNumber>,
+    block: Block,
+    number: usize,
+    node: Node,
+) -> Result<f64, ExpressionFault> {
+    let evaluation = Evaluation {
+        scope: Scope {
+            catalogue: t,
+            variables: &variables(),
+            opened,
+        },
+        constants: &CONSTANTS,
+        host: &RootHost,
+    };
+    evaluate_at(&evaluation, block, number, &[node])
+}
+
 // In block ij over dense 3 by 3.
 fn value(t: &Table, number: usize, node: Node) -> Result<f64, ExpressionFault> {
-    evaluate_at(
-        t,
-        &RootHost,
-        &variables(),
-        Some(9),
-        &CONSTANTS,
-        letters(2, b"ij--"),
-        1,
-        number,
-        &[node],
-    )
+    value_in(t, Some(9), block(2, b"ij--", 1), number, node)
 }
 
 fn dense_names(rt: &impl Abort, t: &Table) {
@@ -129,19 +147,25 @@ fn names(rt: HostRuntime) -> Result<(), Fail> {
     other_names(&rt, &t);
     // outside the shape: place 3 of dense 4, in a layout of 3
     assert!(rt;
-        evaluate_at(
-            &t,
-            &RootHost,
-            &variables(),
-            None,
-            &CONSTANTS,
-            letters(1, b"i---"),
-            5,
-            3,
-            &[name(4, 1, b"i---")],
-        ) == Ok(0.0)
+        value_in(&t, None, block(1, b"i---", 5), 3, name(4, 1, b"i---")) == Ok(0.0)
     );
     Ok(())
+}
+
+// What is refused of an expression in a block.
+fn fault(
+    t: &Table,
+    opened: Option<VariableNumber>,
+    block: Block,
+    constant: bool,
+    nodes: &[Node],
+) -> Result<(), ExpressionFault> {
+    let scope = Scope {
+        catalogue: t,
+        variables: &variables(),
+        opened,
+    };
+    expression_fault(&scope, block, constant, nodes)
 }
 
 // Whether a node, the third after two numbers, is refused with a number over a layout.
@@ -155,8 +179,7 @@ fn refused(
     let plus = Node::Binary(BinaryOperator::Add);
     let one = Node::Number(1.0);
     let nodes = [one, one, node, plus, plus];
-    let block = letters(2, b"ij--");
-    match expression_fault(t, &variables(), opened, true, block, source, &nodes) {
+    match fault(t, opened, block(2, b"ij--", source), true, &nodes) {
         Ok(()) => false,
         Err(fault) => {
             let r = fault.report();
@@ -197,12 +220,12 @@ fn not_in_a_constant_block(rt: HostRuntime) -> Result<(), Fail> {
         return Err(Fail::new("a faulty record"));
     }
     let t = Table::new(&records, &pool);
-    let block = letters(1, b"i---");
+    let block = block(1, b"i---", 3);
     let time = [name(0, 0, b"----")];
-    assert!(rt; expression_fault(&t, &variables(), None, false, block, 3, &time) == Ok(()));
+    assert!(rt; fault(&t, None, block, false, &time) == Ok(()));
     let bad = [name(0, 5, b"----")];
     assert!(rt;
-        expression_fault(&t, &variables(), None, false, block, 3, &bad)
+        fault(&t, None, block, false, &bad)
             == Err(ExpressionFault::Malformed)
     );
     Ok(())

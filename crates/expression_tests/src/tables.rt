@@ -1,13 +1,15 @@
 //! Values at all source places, and binary tables.
-use crate::reading::{POOL, layouts, letters};
+use crate::reading::{POOL, block, layouts, letters};
 use expression::fault::ExpressionFault;
 use expression::node::Node;
 use expression::root_host::RootHost;
 use layout::fault::{Layer, LayoutFault};
 use names::binary_table::{needs_no_table, to_binary_data_layout};
+use names::evaluate::Evaluation;
 use names::fault::NamesFault;
 use names::permutation::Permutation;
 use names::places::evaluate_places;
+use names::scope::Scope;
 use names::variable::{Class, VariableRecord};
 use std::process::Abort;
 use std::test::Fail;
@@ -22,9 +24,16 @@ fn at_places(t: &Table, node: Node, code: u8, out: &mut [f64]) -> Result<(), Nam
         offset: 0,
     };
     let nodes = [node, Node::Call { code, arguments: 1 }];
-    let block = letters(1, b"i---");
-    let constants = [1.0, 4.0, 9.0];
-    evaluate_places(t, &RootHost, &[x], None, &constants, block, 3, &nodes, out)
+    let evaluation = Evaluation {
+        scope: Scope {
+            catalogue: t,
+            variables: &[x],
+            opened: None,
+        },
+        constants: &[1.0, 4.0, 9.0],
+        host: &RootHost,
+    };
+    evaluate_places(&evaluation, block(1, b"i---", 3), &nodes, out)
 }
 
 fn values(rt: &impl Abort, t: &Table) -> Result<(), Fail> {

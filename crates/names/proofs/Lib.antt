@@ -1,10 +1,7 @@
 pub mod Slotting
-pub mod Scalars
-pub mod Indexing
+pub mod Testing
 pub mod Picking
-pub mod Standing
-pub mod Running
-pub mod Gathering
 pub mod Tabling
 pub mod Owning
-pub mod Valuing
+pub mod Running
+pub mod Gathering

@@ -10,7 +10,8 @@ use Rattle.expression.specs.declared.fault.ExpressionFault.TheVariants as fault
 use Rattle.expression.specs.Letterings.{letters_of, distinct}
 use Rattle.expression.specs.Nodes.{well_formed}
 use Rattle.names.specs.Reading.{permutation}
-use Rattle.names.specs.Variables.{Variable, is_constant}
+use Rattle.names.specs.declared.variable.VariableRecord.{VariableRecord}
+use Rattle.names.specs.Variables.{Variable, is_constant, environment, ready_but}
 
 -- ---- letters
 
@@ -64,3 +65,24 @@ names_check env ready constant block s i (n ∷ ns) = and_then (node_check env r
 -- malformed, or the first fault of a name
 abbrev pub checked : (ℕ → Option Variable) → (ℕ → Bool) → Bool → List ℕ → ℕ → List Node → Verdict
 checked env ready constant block s ns = cond (well_formed ns) (names_check env ready constant block s 0 ns) (Err fault.Malformed)
+
+-- ---- by records
+
+-- what the names of an expression in a block are checked by: layouts, records, the open tensor's variable, whether the block is constant, its letters, and the source's rank
+pub record Setting : Type 0 where
+  pub layouts : List Layout
+  pub variables : List VariableRecord
+  pub opened : Option ℕ
+  pub constant : Bool
+  pub block : List ℕ
+  pub rank : ℕ
+
+-- a variable with letters, at node i
+abbrev pub name_verdict : Setting → ℕ → ℕ → List ℕ → Verdict
+name_verdict s i v name = variable_check s.constant s.block s.rank i name (ready_but s.opened v) (environment s.layouts s.variables v)
+
+abbrev pub node_verdict : Setting → ℕ → Node → Verdict
+node_verdict s = node_check (environment s.layouts s.variables) (ready_but s.opened) s.constant s.block s.rank
+
+abbrev pub names_verdict : Setting → List Node → Verdict
+names_verdict s = names_check (environment s.layouts s.variables) (ready_but s.opened) s.constant s.block s.rank 0

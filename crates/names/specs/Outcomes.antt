@@ -27,6 +27,18 @@ value_at host env vals block s ns k = by_host (evaluated (node_value host (readi
 abbrev pub value_by : (ℕ → List Float → Option Float) → List Layout → List VariableRecord → List Float → List ℕ → ℕ → List Node → ℕ → Result Float ExpressionFault
 value_by host ls rs constants block source ns = value_at host (environment ls rs) (values ls constants rs) block (slice_index_or ls source blank) ns
 
+-- an expression and what it is evaluated by but the host: layouts, records, constants, the block's letters, and the source
+pub record Evaluable : Type 0 where
+  pub layouts : List Layout
+  pub variables : List VariableRecord
+  pub constants : List Float
+  pub block : List ℕ
+  pub source : Layout
+  pub nodes : List Node
+
+abbrev pub value_of : (ℕ → List Float → Option Float) → Evaluable → ℕ → Result Float ExpressionFault
+value_of host e = value_at host (environment e.layouts e.variables) (values e.layouts e.constants e.variables) e.block e.source e.nodes
+
 -- in a constant block: what a check refuses, or the value
 abbrev pub outcome : (ℕ → List Float → Option Float) → (ℕ → Option Variable) → (ℕ → List Float) → (ℕ → Bool) → List ℕ → Layout → List Node → ℕ → Result Float ExpressionFault
 outcome host env vals ready block s ns k = and_then (checked env ready true block (rank s) ns) (value_at host env vals block s ns k)

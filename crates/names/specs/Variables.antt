@@ -1,5 +1,5 @@
 -- The variables that records stand for, and what a name is.
-use Rattle.std.specs.Prelude.{ℕ, ◌-◌, Bool, true, false, cond, not, ◌||◌, List, [], length, take, drop, ℤ, Some, None, Option, ◌==◌, nat_lt, slice_index_or, Float}
+use Rattle.std.specs.Prelude.{ℕ, zero, suc, ◌-◌, Bool, true, false, cond, not, ◌||◌, List, [], length, take, drop, ℤ, Some, None, Option, ◌==◌, nat_lt, slice_index_or, Float}
 use Rattle.std.specs.Float.{float_zero}
 use Rattle.std.specs.Option.{option_map}
 use Rattle.layout.specs.Layouts.{Layout, blank, count}
@@ -18,6 +18,13 @@ abbrev pub is_constant : Class → Bool
 is_constant Constant = true
 is_constant Data = false
 is_constant Unstored = false
+
+-- the class with a number: 0 constant, 1 data, 2 unstored
+abbrev pub class_of : ℕ → Option Class
+class_of zero = Some Constant
+class_of (suc zero) = Some Data
+class_of (suc (suc zero)) = Some Unstored
+class_of (suc (suc (suc n))) = None
 
 -- what a name is, by the variables of env and their values: 0.0 where there is no variable or no element
 abbrev pub read_of : List Float → List ℕ → List ℤ → List ℕ → Option Variable → Float
@@ -65,6 +72,17 @@ values ls constants rs v = values_by ls constants (recorded rs v)
 -- what a name is by layouts, records and constants
 abbrev pub read_by : List Layout → List VariableRecord → List Float → List ℕ → List ℤ → ℕ → Letters → Float
 read_by ls rs constants = reading (environment ls rs) (values ls constants rs)
+
+-- what names are read from: layouts, records, constants, the block's letters, and the source place as an index
+pub record Readable : Type 0 where
+  pub layouts : List Layout
+  pub variables : List VariableRecord
+  pub constants : List Float
+  pub block : List ℕ
+  pub place : List ℤ
+
+abbrev pub read_from : Readable → ℕ → Letters → Float
+read_from r = read_by r.layouts r.variables r.constants r.block r.place
 
 -- every variable is ready but that of the open tensor, which has a record
 abbrev pub ready_but : Option ℕ → ℕ → Bool

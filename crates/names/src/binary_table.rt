@@ -1,18 +1,17 @@
 //! Binary tables: for each source place, the number that it has in a name's layout.
-ghost use Rattle.std.specs.Prelude.{◌≡◌, ◌+◌, ◌<◌, ◌≤◌, length, IfSome, nat_le, slice_index_or};
-ghost use Rattle.std.proofs.Math.Seq.{paste};
-ghost use Rattle.layout.specs.Layouts.{AllValid, blank, at as place_of, count as count_of, rank as rank_of};
+ghost use Rattle.std.specs.Prelude.{◌≡◌, ◌+◌, ◌<◌, ◌≤◌, length, IfSome, nat_le};
+ghost use Rattle.layout.specs.Layouts.{at as place_of, count as count_of};
 ghost use Rattle.layout.specs.Answers.{index_of};
 ghost use Rattle.names.specs.Reading.{slots_of, table_element};
 ghost use Rattle.names.specs.Tables.{entry_of, binary_table, table_asked, PutFrom, identity_from, NoTableAsked};
 
-use crate::asks::{place_at, wide_at};
 use crate::element::permuted;
 use crate::fault::NamesFault;
 use crate::permutation::Permutation;
 use layout::catalogue::Catalogue;
 use layout::fault::LayoutFault;
 use layout::find::eq_nonzeros;
+use layout::layout_ref::LayoutRef;
 
 /// The entry of a place that has no number in the name's layout.
 const ABSENT: i32 = -1;
@@ -30,40 +29,29 @@ fn table_entry(number: Option<usize>) -> i32
 
 /// The entry of source place `k`.
 fn entry_at<C: Catalogue>(
-    c: &C,
-    layout: usize,
-    rank: usize,
+    layout: &LayoutRef<C>,
     slots: &[usize],
-    source: usize,
+    source: &LayoutRef<C>,
     k: usize,
 ) -> i32
-    requires valid { AllValid (C.layouts c.now) }
-    requires rank { rank ≡ rank_of (slice_index_or (C.layouts c.now) layout blank) }
-    ensures { result ≡ entry_of (table_element (slice_index_or (C.layouts c.now) layout blank) slots.now (index_of (place_of (slice_index_or (C.layouts c.now) source blank) k))) }
+    ensures { result ≡ entry_of (table_element layout.now slots.now (index_of (place_of source.now k))) }
 {
-    let x = place_at(c, source, k);
-    table_entry(wide_at(c, layout, permuted(rank, slots, x)))
+    let rank = layout.shape().rank;
+    table_entry(layout.find_nnz_index(permuted(rank, slots, source.place_or_zeros(k))))
 }
 
-/// Writes the entry of each source place from a position on.
+/// Writes the entry of each source place.
 fn write_table<C: Catalogue>(
-    c: &C,
-    layout: usize,
-    rank: usize,
+    layout: &LayoutRef<C>,
     slots: &[usize],
-    source: usize,
-    count: usize,
+    source: &LayoutRef<C>,
     table: &mut [i32],
-    at: usize,
 )
-    requires valid { AllValid (C.layouts c.now) }
-    requires rank { rank ≡ rank_of (slice_index_or (C.layouts c.now) layout blank) }
-    requires counted { count ≡ count_of (slice_index_or (C.layouts c.now) source blank) }
-    requires room { at + count ≤ length table.old }
-    ensures { table.new ≡ paste table.old at (binary_table (slice_index_or (C.layouts c.now) layout blank) (slice_index_or (C.layouts c.now) source blank) slots.now) count }
+    requires { length table.old ≡ count_of source.now }
+    ensures { table.new ≡ binary_table layout.now source.now slots.now }
 {
-    for k in 0..count {
-        table[at + k] = entry_at(c, layout, rank, slots, source, k);
+    for (k, entry) in table.iter_mut().enumerate() {
+        *entry = entry_at(layout, slots, source, k);
     }
 }
 
@@ -86,22 +74,17 @@ pub fn to_binary_data_layout<C: Catalogue>(
 ) -> Result<usize, NamesFault>
     ensures { PutFrom at (table_asked (C.layouts c.now) layout source (slots_of permutation.now) at (length table.old)) table.old table.new result }
 {
-    // The count says that every layout is valid.
-    let _ = c.count();
-    let shape = c.shape(layout)?;
-    let count = c.shape(source)?.count;
+    let layout = LayoutRef::new(c, layout)?;
+    let source = LayoutRef::new(c, source)?;
+    let count = source.count();
     if !has_room(table.len(), at, count) {
         return Err(NamesFault::NoRoom);
     }
     write_table(
-        c,
-        layout,
-        shape.rank,
+        &layout,
         permutation.meant(),
-        source,
-        count,
-        table,
-        at,
+        &source,
+        &mut table[at..at + count],
     );
     Ok(at + count)
 }
@@ -110,12 +93,7 @@ pub fn to_binary_data_layout<C: Catalogue>(
 fn is_identity(slots: &[usize]) -> bool
     ensures { result ≡ identity_from 0 slots.now }
 {
-    for i in 0..slots.len() {
-        if slots[i] != i {
-            return false;
-        }
-    }
-    true
+    slots.iter().enumerate().all(|(i, slot)| *slot == i)
 }
 
 /// Whether a name's layout needs no binary table under a source: the source place's own number
@@ -128,6 +106,5 @@ pub fn needs_no_table<C: Catalogue>(
 ) -> Result<bool, LayoutFault>
     ensures { NoTableAsked (C.layouts c.now) layout source (slots_of permutation.now) result }
 {
-    let same = eq_nonzeros(c, layout, source)?;
-    Ok(same & is_identity(permutation.meant()))
+    Ok(eq_nonzeros(c, layout, source)? && is_identity(permutation.meant()))
 }

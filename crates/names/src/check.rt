@@ -1,227 +1,150 @@
 //! Which names may stand in an expression.
-ghost use Rattle.std.specs.Prelude.{◌≡◌, ◌≤◌, ◌&&◌, length, Some as Found, ◌==◌, slice_index_or};
+ghost use Rattle.std.specs.Prelude.{◌≡◌, ◌&&◌, length, ◌==◌, slice_index_or};
 ghost use Rattle.layout.specs.Layouts.{rank as rank_of, blank};
 ghost use Rattle.expression.specs.Letterings.{letters_of, distinct};
 ghost use Rattle.names.specs.Reading.{permutation as permutation_of};
-ghost use Rattle.names.specs.Variables.{layout_of, variable_of, environment, ready_but};
-ghost use Rattle.names.specs.Checks.{supplied, fitting_slots, fitting, variable_check, node_check, names_check, checked};
+ghost use Rattle.names.specs.Variables.{environment, ready_but};
+ghost use Rattle.names.specs.Checks.{Setting, supplied, fitting_slots, fitting, name_verdict, node_verdict, names_verdict, checked};
 
-use crate::asks::{shape_at, shape_of};
-use crate::permutation::letters_permuted;
-use crate::variable::{VariableRecord, described, is_constant, is_ready};
+use crate::layout_or_scalar::LayoutOrScalar;
+use crate::permutation::Permutation;
+use crate::scope::{Block, Scope};
+use crate::variable::{described, is_constant, is_ready};
 use expression::fault::ExpressionFault;
 use expression::formed::is_well_formed;
 use expression::letters::{are_distinct, meant};
 use expression::node::{Letters, Node, VariableNumber};
 use layout::catalogue::Catalogue;
 use layout::kind::LayoutKind;
+use std::marker::Model;
 
 /// Whether each slot that is used has an entry of the source.
 fn are_supplied(source_rank: usize, rank: usize, slots: &[usize]) -> bool
     ensures { result ≡ supplied source_rank rank 0 slots.now }
 {
-    for i in 0..slots.len() {
-        if !((rank <= slots[i]) | (i < source_rank)) {
-            return false;
-        }
-    }
-    true
+    slots
+        .iter()
+        .enumerate()
+        .all(|(i, slot)| rank <= *slot || i < source_rank)
 }
 
 /// Whether a permutation is short enough, and each slot that is used has an entry.
 fn slots_fit(source_rank: usize, rank: usize, slots: &[usize]) -> bool
-    requires { source_rank ≤ 4 }
     ensures { result ≡ fitting_slots source_rank rank slots.now }
 {
-    (slots.len() <= source_rank + 1) & are_supplied(source_rank, rank, slots)
+    slots.len().saturating_sub(1) <= source_rank && are_supplied(source_rank, rank, slots)
 }
 
-/// Whether the letters of a name may stand whose layout is not dense.
-fn others_fit(source_rank: usize, rank: usize, block: &[u8], name: &[u8]) -> bool
-    requires source { source_rank ≤ 4 }
-    requires block { length block.now ≤ 4 }
-    requires name { length name.now ≤ 4 }
-    ensures { result ≡ (length name.now == rank && distinct name.now) && fitting_slots source_rank rank (permutation_of rank block.now name.now) }
-{
-    let p = letters_permuted(rank, block, name);
-    (name.len() == rank) & are_distinct(name) & slots_fit(source_rank, rank, p.meant())
-}
-
-/// Whether the letters of a name may stand.
-fn letters_fit<C: Catalogue>(
-    c: &C,
-    layout: Option<usize>,
-    source_rank: usize,
-    block: &[u8],
-    name: &[u8],
-) -> bool
-    requires source { source_rank ≤ 4 }
-    requires block { length block.now ≤ 4 }
-    requires name { length name.now ≤ 4 }
-    ensures { result ≡ fitting (layout_of (C.layouts c.now) layout) source_rank block.now name.now }
-{
-    let shape = shape_of(c, layout);
-    match shape.kind {
-        LayoutKind::Dense => (name.len() == shape.rank) | (name.len() == 0),
-        LayoutKind::Diagonal => others_fit(source_rank, shape.rank, block, name),
-        LayoutKind::Sparse => others_fit(source_rank, shape.rank, block, name),
-    }
-}
-
-/// Whether a name may stand for a variable that there is.
-fn check_variable<C: Catalogue>(
-    c: &C,
+/// What the names of an expression in a block are checked by.
+#[derive(Drop)]
+struct NameCheck<'a, C: Catalogue> {
+    scope: &'a Scope<'a, C>,
     constant: bool,
-    block: &[u8],
-    source_rank: usize,
-    i: usize,
-    name: &[u8],
-    ready: bool,
-    v: VariableRecord,
-) -> Result<(), ExpressionFault>
-    requires source { source_rank ≤ 4 }
-    requires block { length block.now ≤ 4 }
-    requires name { length name.now ≤ 4 }
-    ensures { result ≡ variable_check constant block.now source_rank i name.now ready (Found (variable_of (C.layouts c.now) v)) }
-{
-    if !ready {
-        return Err(ExpressionFault::NotReady { node: i });
-    }
-    if constant & !is_constant(v.class) {
-        return Err(ExpressionFault::NotConstant { node: i });
-    }
-    if letters_fit(c, v.layout, source_rank, block, name) {
-        Ok(())
-    } else {
-        Err(ExpressionFault::Letters { node: i })
-    }
-}
-
-/// Whether a name may stand.
-fn check_name<C: Catalogue>(
-    c: &C,
-    variables: &[VariableRecord],
-    opened: Option<VariableNumber>,
-    constant: bool,
-    block: &[u8],
-    source_rank: usize,
-    i: usize,
-    variable: VariableNumber,
     letters: Letters,
-) -> Result<(), ExpressionFault>
-    requires source { source_rank ≤ 4 }
-    requires block { length block.now ≤ 4 }
-    ensures { result ≡ variable_check constant block.now source_rank i (letters_of letters) (ready_but opened variable) (environment (C.layouts c.now) variables.now variable) }
-{
-    let ready = is_ready(opened, variable);
-    match described(variables, variable) {
-        Some(v) => check_variable(
-            c,
-            constant,
-            block,
-            source_rank,
-            i,
-            meant(&letters),
-            ready,
-            v,
-        ),
-        None => Err(ExpressionFault::NotReady { node: i }),
-    }
+    source_rank: usize,
 }
 
-/// Whether a node may stand, which each does but a name.
-fn check_node<C: Catalogue>(
-    c: &C,
-    variables: &[VariableRecord],
-    opened: Option<VariableNumber>,
-    constant: bool,
-    block: &[u8],
-    source_rank: usize,
-    i: usize,
-    node: Node,
-) -> Result<(), ExpressionFault>
-    requires source { source_rank ≤ 4 }
-    requires block { length block.now ≤ 4 }
-    ensures { result ≡ node_check (environment (C.layouts c.now) variables.now) (ready_but opened) constant block.now source_rank i node }
-{
-    match node {
-        Node::Number(_) => Ok(()),
-        Node::Name { variable, letters } => check_name(
-            c,
-            variables,
-            opened,
-            constant,
-            block,
-            source_rank,
-            i,
-            variable,
-            letters,
-        ),
-        Node::Binary(_) => Ok(()),
-        Node::Unary(_) => Ok(()),
-        Node::Call {
-            code: _,
-            arguments: _,
-        } => Ok(()),
-    }
+impl<'a, C: Catalogue> Model for NameCheck<'a, C> {
+    ghost Value = { Setting };
+
+    ghost view = { λ n. record { layouts = C.layouts n.scope.now.catalogue.now; variables = n.scope.now.variables.now; opened = n.scope.now.opened; constant = n.constant; block = letters_of n.letters; rank = n.source_rank } };
 }
 
-/// Whether every name may stand.
-fn check_names<C: Catalogue>(
-    c: &C,
-    variables: &[VariableRecord],
-    opened: Option<VariableNumber>,
-    constant: bool,
-    block: &[u8],
-    source_rank: usize,
-    nodes: &[Node],
-) -> Result<(), ExpressionFault>
-    requires source { source_rank ≤ 4 }
-    requires block { length block.now ≤ 4 }
-    ensures { result ≡ names_check (environment (C.layouts c.now) variables.now) (ready_but opened) constant block.now source_rank 0 nodes.now }
-{
-    for i in 0..nodes.len() {
-        check_node(
-            c,
-            variables,
-            opened,
-            constant,
-            block,
-            source_rank,
-            i,
-            nodes[i],
-        )?;
+impl<'a, C: Catalogue> NameCheck<'a, C> {
+    /// Whether the letters of a name may stand whose layout has a rank and is not dense.
+    fn others_fit(&self, rank: usize, name: Letters) -> bool
+        ensures { result ≡ (length (letters_of name) == rank && distinct (letters_of name)) && fitting_slots self.now.rank rank (permutation_of rank self.now.block (letters_of name)) }
+    {
+        let letters = meant(&name);
+        let permutation = Permutation::new(rank, self.letters, name);
+        letters.len() == rank
+            && are_distinct(letters)
+            && slots_fit(self.source_rank, rank, permutation.meant())
     }
-    Ok(())
+
+    /// Whether the letters of a name may stand for a variable with a layout.
+    fn letters_fit(&self, layout: &LayoutOrScalar<C>, name: Letters) -> bool
+        ensures { result ≡ fitting layout.now self.now.rank self.now.block (letters_of name) }
+    {
+        let shape = layout.shape();
+        let count = meant(&name).len();
+        match shape.kind {
+            LayoutKind::Dense => count == shape.rank || count == 0,
+            LayoutKind::Diagonal | LayoutKind::Sparse => self.others_fit(shape.rank, name),
+        }
+    }
+
+    /// Whether the name at a node may stand.
+    fn check_name(
+        &self,
+        node: usize,
+        variable: VariableNumber,
+        name: Letters,
+    ) -> Result<(), ExpressionFault>
+        ensures { result ≡ name_verdict self.now node variable (letters_of name) }
+    {
+        let Some(record) = described(self.scope.variables, variable) else {
+            return Err(ExpressionFault::NotReady { node });
+        };
+        if !is_ready(self.scope.opened, variable) {
+            return Err(ExpressionFault::NotReady { node });
+        }
+        if self.constant && !is_constant(record.class) {
+            return Err(ExpressionFault::NotConstant { node });
+        }
+        let layout = LayoutOrScalar::new(self.scope.catalogue, record.layout);
+        if !self.letters_fit(&layout, name) {
+            return Err(ExpressionFault::Letters { node });
+        }
+        Ok(())
+    }
+
+    /// Whether node `i` may stand, which each does but a name.
+    fn check_node(&self, i: usize, node: Node) -> Result<(), ExpressionFault>
+        ensures { result ≡ node_verdict self.now i node }
+    {
+        match node {
+            Node::Name { variable, letters } => self.check_name(i, variable, letters),
+            Node::Number(_)
+            | Node::Binary(_)
+            | Node::Unary(_)
+            | Node::Call {
+                code: _,
+                arguments: _,
+            } => Ok(()),
+        }
+    }
+
+    /// Whether every name may stand.
+    fn check_names(&self, nodes: &[Node]) -> Result<(), ExpressionFault>
+        ensures { result ≡ names_verdict self.now nodes.now }
+    {
+        for (i, node) in nodes.iter().enumerate() {
+            self.check_node(i, *node)?;
+        }
+        Ok(())
+    }
 }
 
 /// Whether an expression may stand in a block, which is constant or not: refused where it is
-/// malformed, and then at the first name that may not stand. `opened` is the variable of the open
-/// tensor, which is not ready. A source that does not exist counts as a scalar.
+/// malformed, and then at the first name that may not stand.
 pub fn expression_fault<C: Catalogue>(
-    c: &C,
-    variables: &[VariableRecord],
-    opened: Option<VariableNumber>,
+    scope: &Scope<C>,
+    block: Block,
     constant: bool,
-    letters: Letters,
-    source: usize,
     nodes: &[Node],
 ) -> Result<(), ExpressionFault>
-    ensures { result ≡ checked (environment (C.layouts c.now) variables.now) (ready_but opened) constant (letters_of letters) (rank_of (slice_index_or (C.layouts c.now) source blank)) nodes.now }
+    ensures { result ≡ checked (environment (C.layouts scope.now.catalogue.now) scope.now.variables.now) (ready_but scope.now.opened) constant (letters_of block.letters) (rank_of (slice_index_or (C.layouts scope.now.catalogue.now) block.source blank)) nodes.now }
 {
     if !is_well_formed(nodes) {
         return Err(ExpressionFault::Malformed);
     }
-    // The count says that every layout is valid.
-    let _ = c.count();
-    let shape = shape_at(c, source);
-    check_names(
-        c,
-        variables,
-        opened,
+    let source = LayoutOrScalar::new(scope.catalogue, Some(block.source));
+    let check = NameCheck {
+        scope,
         constant,
-        meant(&letters),
-        shape.rank,
-        nodes,
-    )
+        letters: block.letters,
+        source_rank: source.shape().rank,
+    };
+    check.check_names(nodes)
 }

@@ -1,62 +1,107 @@
 //! Which element of its layout a name reads.
-ghost use Rattle.std.specs.Prelude.{◌≡◌, ◌<◌, ◌≤◌, length, pos, if◌then◌else◌, nat_lt, slice_index, slice_index_or, slice_set};
-ghost use Rattle.layout.specs.Layouts.{rank as rank_of};
-ghost use Rattle.layout.specs.Answers.{shape_of};
-ghost use Rattle.names.specs.Reading.{dense_entry, dense_index, dense_element, permuted as permuted_index, table_element, permutation as permutation_of, element as element_of};
-ghost use Rattle.names.specs.Variables.{layout_of};
+ghost use Rattle.std.specs.Prelude.{◌≡◌, ◌<◌, pos, IfSome, if◌then◌else◌, nat_lt, slice_index_or, slice_set};
+ghost use Rattle.layout.specs.Layouts.{rank as rank_of, count as count_of};
+ghost use Rattle.expression.specs.Letterings.{letters_of, position};
+ghost use Rattle.names.specs.Reading.{dense_entry as dense_entry_of, dense_index as dense_index_of, dense_element as dense_element_of, permuted as permuted_index, table_element as table_element_of, permutation as permutation_of, element as element_of};
 
-use crate::asks::{shape_of, strict_of, wide_of};
-use crate::permutation::letters_permuted;
-use expression::letters::position_of;
+use crate::layout_or_scalar::LayoutOrScalar;
+use crate::permutation::Permutation;
+use expression::letters::{meant, position_of};
+use expression::node::Letters;
 use layout::catalogue::Catalogue;
 use layout::index::Index;
 use layout::kind::LayoutKind;
 
-fn entry_or_zero(x: Index, i: usize) -> i64
-    ensures { result ≡ slice_index_or x i (pos 0) }
-{
-    if i < 4 { x[i] } else { 0 }
+/// A place of the source under the letters of the block.
+#[derive(Clone, Copy)]
+pub(crate) struct LetteredPlace {
+    pub(crate) letters: Letters,
+    pub(crate) index: Index,
 }
 
-fn letter_or_zero(letters: &[u8], i: usize) -> u8
-    ensures { result ≡ slice_index letters.now i }
-{
-    if i < letters.len() { letters[i] } else { 0 }
-}
-
-/// The entry on axis `i` that a dense name is read at.
-fn dense_entry_at(block: &[u8], x: Index, lengths: [usize; 4], name: &[u8], i: usize) -> i64
-    requires { i < 4 }
-    ensures { result ≡ dense_entry block.now x lengths name.now i }
-{
-    if lengths[i] == 1 {
-        return 0;
+impl LetteredPlace {
+    /// The entry of a letter; for one that the block has not, the entry just after those.
+    fn entry(&self, letter: u8) -> i64
+        ensures { result ≡ slice_index_or self.now.index (position letter (letters_of self.now.letters)) (pos 0) }
+    {
+        let i = position_of(letter, meant(&self.letters));
+        self.index.get(i).copied().unwrap_or(0)
     }
-    let letter = letter_or_zero(name, i);
-    entry_or_zero(x, position_of(letter, block))
-}
 
-/// The index that a dense name is read at.
-fn dense_index_at(block: &[u8], x: Index, lengths: [usize; 4], name: &[u8]) -> Index
-    ensures { result ≡ dense_index block.now x lengths name.now }
-{
-    [
-        dense_entry_at(block, x, lengths, name, 0),
-        dense_entry_at(block, x, lengths, name, 1),
-        dense_entry_at(block, x, lengths, name, 2),
-        dense_entry_at(block, x, lengths, name, 3),
-    ]
-}
-
-/// With an entry at its slot, if that is below the rank.
-fn put_entry(y: Index, rank: usize, slot: usize, entry: i64) -> Index
-    ensures { result ≡ (if nat_lt slot rank then slice_set y slot entry else y) }
-{
-    let mut out = y;
-    if (slot < rank) & (slot < 4) {
-        out[slot] = entry;
+    /// The entry on axis `i` that a dense name is read at.
+    fn dense_entry(&self, lengths: [usize; 4], name: Letters, i: usize) -> i64
+        requires { i < 4 }
+        ensures { result ≡ dense_entry_of (letters_of self.now.letters) self.now.index lengths (letters_of name) i }
+    {
+        if lengths[i] == 1 {
+            return 0;
+        }
+        let letter = meant(&name).get(i).copied().unwrap_or(0);
+        self.entry(letter)
     }
-    out
+
+    /// The index that a dense name is read at.
+    fn dense_index(&self, lengths: [usize; 4], name: Letters) -> Index
+        ensures { result ≡ dense_index_of (letters_of self.now.letters) self.now.index lengths (letters_of name) }
+    {
+        [
+            self.dense_entry(lengths, name, 0),
+            self.dense_entry(lengths, name, 1),
+            self.dense_entry(lengths, name, 2),
+            self.dense_entry(lengths, name, 3),
+        ]
+    }
+
+    /// The element that a dense name reads.
+    fn dense_element<C: Catalogue>(
+        &self,
+        layout: &LayoutOrScalar<C>,
+        name: Letters,
+    ) -> Option<usize>
+        ensures { result ≡ dense_element_of layout.now (letters_of self.now.letters) self.now.index (letters_of name) }
+    {
+        if meant(&name).is_empty() {
+            return Some(0);
+        }
+        layout.number(self.dense_index(layout.shape().lengths, name))
+    }
+
+    /// The element that another name reads.
+    fn table_element<C: Catalogue>(
+        &self,
+        layout: &LayoutOrScalar<C>,
+        name: Letters,
+    ) -> Option<usize>
+        ensures { result ≡ table_element_of layout.now (permutation_of (rank_of layout.now) (letters_of self.now.letters) (letters_of name)) self.now.index }
+    {
+        let rank = layout.shape().rank;
+        let permutation = Permutation::new(rank, self.letters, name);
+        layout.find_nnz_index(permuted(rank, permutation.meant(), self.index))
+    }
+
+    /// The element of its layout that a name reads, if there is one.
+    pub(crate) fn element<C: Catalogue>(
+        &self,
+        layout: &LayoutOrScalar<C>,
+        name: Letters,
+    ) -> Option<usize>
+        ensures is { result ≡ element_of layout.now (letters_of self.now.letters) self.now.index (letters_of name) }
+        ensures inside { IfSome result (λ n. n < count_of layout.now) }
+    {
+        match layout.shape().kind {
+            LayoutKind::Dense => self.dense_element(layout, name),
+            LayoutKind::Diagonal | LayoutKind::Sparse => self.table_element(layout, name),
+        }
+    }
+}
+
+/// Puts an entry at its slot, if that is below the rank.
+fn put_entry(y: &mut Index, rank: usize, slot: usize, entry: i64)
+    ensures { y.new ≡ (if nat_lt slot rank then slice_set y.old slot entry else y.old) }
+{
+    if slot < rank && slot < 4 {
+        y[slot] = entry;
+    }
 }
 
 /// The index that a source place is read at in a layout of a rank.
@@ -64,65 +109,8 @@ pub(crate) fn permuted(rank: usize, slots: &[usize], x: Index) -> Index
     ensures { result ≡ permuted_index rank slots.now x }
 {
     let mut y = [0, 0, 0, 0];
-    for i in 0..slots.len() {
-        let next = put_entry(y, rank, slots[i], entry_or_zero(x, i));
-        y = next;
+    for (i, slot) in slots.iter().enumerate() {
+        put_entry(&mut y, rank, *slot, x.get(i).copied().unwrap_or(0));
     }
     y
-}
-
-/// The element that a dense name reads.
-fn dense_element_of<C: Catalogue>(
-    c: &C,
-    layout: Option<usize>,
-    lengths: [usize; 4],
-    block: &[u8],
-    x: Index,
-    name: &[u8],
-) -> Option<usize>
-    requires { lengths ≡ (shape_of (layout_of (C.layouts c.now) layout)).lengths }
-    ensures { result ≡ dense_element (layout_of (C.layouts c.now) layout) block.now x name.now }
-{
-    if name.len() == 0 {
-        return Some(0);
-    }
-    strict_of(c, layout, dense_index_at(block, x, lengths, name))
-}
-
-/// The element that another name reads.
-fn table_element_of<C: Catalogue>(
-    c: &C,
-    layout: Option<usize>,
-    rank: usize,
-    block: &[u8],
-    x: Index,
-    name: &[u8],
-) -> Option<usize>
-    requires rank { rank ≡ rank_of (layout_of (C.layouts c.now) layout) }
-    requires block { length block.now ≤ 4 }
-    requires name { length name.now ≤ 4 }
-    ensures { result ≡ table_element (layout_of (C.layouts c.now) layout) (permutation_of rank block.now name.now) x }
-{
-    let p = letters_permuted(rank, block, name);
-    wide_of(c, layout, permuted(rank, p.meant(), x))
-}
-
-/// The element of its layout that a name reads at a source place, or none.
-pub(crate) fn element<C: Catalogue>(
-    c: &C,
-    layout: Option<usize>,
-    block: &[u8],
-    x: Index,
-    name: &[u8],
-) -> Option<usize>
-    requires block { length block.now ≤ 4 }
-    requires name { length name.now ≤ 4 }
-    ensures { result ≡ element_of (layout_of (C.layouts c.now) layout) block.now x name.now }
-{
-    let shape = shape_of(c, layout);
-    match shape.kind {
-        LayoutKind::Dense => dense_element_of(c, layout, shape.lengths, block, x, name),
-        LayoutKind::Diagonal => table_element_of(c, layout, shape.rank, block, x, name),
-        LayoutKind::Sparse => table_element_of(c, layout, shape.rank, block, x, name),
-    }
 }

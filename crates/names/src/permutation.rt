@@ -1,8 +1,10 @@
 //! Where the entries of a source place go in a name.
-ghost use Rattle.std.specs.Prelude.{◌≡◌, ◌+◌, ◌<◌, ◌≤◌, [], ◌∷◌, ◌++◌, map, length, if◌then◌else◌, slice_index};
+ghost use Rattle.std.specs.Prelude.{◌≡◌, ◌+◌, ◌<◌, ◌≤◌, [], ◌∷◌, ◌++◌, length, if◌then◌else◌};
+ghost use Rattle.arrayvec.specs.ArrayVec.{array_vec_len};
 ghost use Rattle.expression.specs.Letterings.{letters_of, among};
 ghost use Rattle.names.specs.Reading.{slots_of, packed as packed_of, slot as slot_of, permutation as permutation_of};
 
+use arrayvec::ArrayVec;
 use expression::letters::{is_among, meant, position_of};
 use expression::node::Letters;
 
@@ -19,7 +21,7 @@ impl Permutation {
         ensures is { result ≡ packed_of (permutation_of rank (letters_of block) (letters_of name)) }
         ensures slots { slots_of result ≡ permutation_of rank (letters_of block) (letters_of name) }
     {
-        packed(letters_permuted(rank, meant(&block), meant(&name)).meant())
+        packed(letters_permuted(rank, block, name).as_slice())
     }
 
     /// The slots that are meant.
@@ -31,28 +33,17 @@ impl Permutation {
     }
 }
 
-fn slot_or_zero(slots: &[usize], i: usize) -> usize
-    ensures { result ≡ slice_index slots.now i }
-{
-    if i < slots.len() { slots[i] } else { 0 }
-}
-
 /// The permutation with these slots.
 fn packed(slots: &[usize]) -> Permutation
-    ensures { result ≡ packed_of slots.now }
+    requires { length slots.now ≤ 8 }
+    ensures is { result ≡ packed_of slots.now }
+    ensures slots { slots_of result ≡ slots.now }
 {
+    let mut all = [0; 8];
+    all[..slots.len()].copy_from_slice(slots);
     Permutation {
         count: slots.len(),
-        slots: [
-            slot_or_zero(slots, 0),
-            slot_or_zero(slots, 1),
-            slot_or_zero(slots, 2),
-            slot_or_zero(slots, 3),
-            slot_or_zero(slots, 4),
-            slot_or_zero(slots, 5),
-            slot_or_zero(slots, 6),
-            slot_or_zero(slots, 7),
-        ],
+        slots: all,
     }
 }
 
@@ -67,59 +58,29 @@ fn slot(rank: usize, name: &[u8], letter: u8) -> usize
     }
 }
 
-/// With one more slot.
-fn pushed(p: Permutation, slot: usize) -> Permutation
-    requires { p.count < 8 }
-    ensures slots { slots_of result ≡ slots_of p ++ slot ∷ [] }
-    ensures count { result.count ≡ p.count + 1 }
+/// Appends the position of a letter that the block has not.
+fn push_foreign(slots: &mut ArrayVec<usize, 8>, block: &[u8], letter: u8, position: usize)
+    requires { array_vec_len slots.old < 8 }
+    ensures slots { slots.new.items ≡ (if among letter block.now then slots.old.items else slots.old.items ++ position ∷ []) }
+    ensures count { array_vec_len slots.new ≤ array_vec_len slots.old + 1 }
 {
-    let mut slots = p.slots;
-    slots[p.count] = slot;
-    Permutation {
-        count: p.count + 1,
-        slots,
+    if !is_among(letter, block) {
+        slots.push(position);
     }
 }
 
-/// The positions of the block's letters in the name.
-fn block_slots(rank: usize, block: &[u8], name: &[u8]) -> Permutation
-    requires { length block.now ≤ 4 }
-    ensures slots { slots_of result ≡ map (slot_of rank name.now) block.now }
-    ensures count { result.count ≡ length block.now }
+/// The slots of letters under a block's.
+fn letters_permuted(rank: usize, block: Letters, name: Letters) -> ArrayVec<usize, 8>
+    ensures { result.items ≡ permutation_of rank (letters_of block) (letters_of name) }
 {
-    let mut p = Permutation {
-        count: 0,
-        slots: [0; 8],
-    };
-    for i in 0..block.len() {
-        p = pushed(p, slot(rank, name, block[i]));
+    let block = meant(&block);
+    let name = meant(&name);
+    let mut slots = ArrayVec::new();
+    for letter in block {
+        slots.push(slot(rank, name, *letter));
     }
-    p
-}
-
-/// With the position of a letter that the block has not.
-fn with_letter(p: Permutation, block: &[u8], letter: u8, i: usize) -> Permutation
-    requires { p.count < 8 }
-    ensures slots { slots_of result ≡ (if among letter block.now then slots_of p else slots_of p ++ i ∷ []) }
-    ensures count { result.count ≤ p.count + 1 }
-{
-    if is_among(letter, block) {
-        p
-    } else {
-        pushed(p, i)
+    for (i, letter) in name.iter().enumerate() {
+        push_foreign(&mut slots, block, *letter, i);
     }
-}
-
-/// The permutation of letters under a block's.
-pub(crate) fn letters_permuted(rank: usize, block: &[u8], name: &[u8]) -> Permutation
-    requires block { length block.now ≤ 4 }
-    requires name { length name.now ≤ 4 }
-    ensures slots { slots_of result ≡ permutation_of rank block.now name.now }
-    ensures count { result.count ≤ 8 }
-{
-    let mut p = block_slots(rank, block, name);
-    for i in 0..name.len() {
-        p = with_letter(p, block, name[i], i);
-    }
-    p
+    slots
 }

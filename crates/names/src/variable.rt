@@ -1,11 +1,12 @@
 //! What is kept of a variable.
 ghost use Rattle.std.specs.Prelude.{◌≡◌};
-ghost use Rattle.names.specs.Variables.{recorded, described as described_by, ready_but, is_constant as constant_class};
+ghost use Rattle.std.specs.Result.{result_ok};
+ghost use Rattle.names.specs.Variables.{class_of, recorded, described as described_by, ready_but, is_constant as constant_class};
 
 use expression::node::VariableNumber;
 
 /// Where the values of a variable are kept.
-#[derive(Clone, Copy)]
+#[derive(Clone, Copy, PartialEq, Eq)]
 pub enum Class {
     /// Among the constants.
     Constant,
@@ -13,6 +14,25 @@ pub enum Class {
     Data,
     /// In neither.
     Unstored,
+}
+
+/// A number that no class has.
+#[derive(Clone, Copy, PartialEq, Eq)]
+pub struct UnknownClass;
+
+impl TryFrom<u8> for Class {
+    type Error = UnknownClass;
+
+    ghost try_from_gives = { λ number r. result_ok r ≡ class_of number };
+
+    fn try_from(number: u8) -> Result<Class, UnknownClass> {
+        match number {
+            0 => Ok(Class::Constant),
+            1 => Ok(Class::Data),
+            2 => Ok(Class::Unstored),
+            _ => Err(UnknownClass),
+        }
+    }
 }
 
 /// A variable: its layout, none for a scalar, its class, and where its values begin. Variables 0
@@ -31,15 +51,8 @@ pub(crate) fn record_of(
 ) -> Option<VariableRecord>
     ensures { result ≡ recorded variables.now variable }
 {
-    if variable < 2 {
-        return None;
-    }
-    let i = variable as usize - 2;
-    if i < variables.len() {
-        Some(variables[i])
-    } else {
-        None
-    }
+    let i = variable.checked_sub(2)?;
+    variables.get(i as usize).copied()
 }
 
 /// What is known of a variable: t and N are scalars, and not constant.
@@ -60,18 +73,12 @@ pub fn described(variables: &[VariableRecord], variable: VariableNumber) -> Opti
 pub(crate) fn is_ready(opened: Option<VariableNumber>, variable: VariableNumber) -> bool
     ensures { result ≡ ready_but opened variable }
 {
-    match opened {
-        Some(o) => (variable < 2) | (variable != o),
-        None => true,
-    }
+    variable < 2 || opened != Some(variable)
 }
 
 /// Whether the values of a class are constant.
 pub fn is_constant(class: Class) -> bool
     ensures { result ≡ constant_class class }
 {
-    match class {
-        Class::Constant => true,
-        Class::Data | Class::Unstored => false,
-    }
+    class == Class::Constant
 }

@@ -6,6 +6,7 @@ use Rattle.translation.specs.Outcome.{known}
 use Rattle.names.specs.declared.variable.Class.{Class}
 use Rattle.names.specs.declared.variable.Class.TheVariants.{Constant, Data, Unstored}
 use Rattle.names.specs.declared.variable.VariableRecord.{VariableRecord}
+use Rattle.names.specs.Variables.{class_of}
 use Rattle.names.specs.Checks.{and_then}
 use Rattle.records.specs.declared.counts.Counts.{Counts}
 use Rattle.records.specs.declared.counts.Room.{Room}
@@ -16,13 +17,6 @@ use Rattle.planning.specs.declared.phase.Incoming.TheVariants.{Opening}
 use Rattle.planning.specs.declared.fault.StageFault.{StageFault}
 use Rattle.planning.specs.declared.fault.StageFault.TheVariants.{Unknown, Short}
 use Rattle.planning.specs.Phases.{phased}
-
--- 0 constant, 1 data, 2 unstored
-abbrev pub class_of : ℕ → Option Class
-class_of zero = Some Constant
-class_of (suc zero) = Some Data
-class_of (suc (suc zero)) = Some Unstored
-class_of (suc (suc (suc n))) = None
 
 -- how many places of the constants, and of the data, a tensor of a class with so many places takes
 abbrev pub constants_for : Class → ℕ → ℕ

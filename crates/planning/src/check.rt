@@ -18,6 +18,7 @@ use expression::letters::{are_distinct, meant};
 use expression::node::{Letters, Node};
 use layout::catalogue::Catalogue;
 use names::check::expression_fault;
+use names::scope::{Block, Scope};
 use names::variable::{VariableRecord, is_constant};
 use overlap::clash::first_clash;
 use records::record::{BlockEntry, TensorRecord};
@@ -71,15 +72,16 @@ fn check_expression<C: Catalogue>(
     ensures { result ≡ names_checked (C.layouts c.now) variables.now target call nodes.now }
 {
     let constant = is_constant(target.class);
-    expression_fault(
-        c,
+    let scope = Scope {
+        catalogue: c,
         variables,
-        Some(target.variable),
-        constant,
-        call.letters,
-        call.source,
-        nodes,
-    )?;
+        opened: Some(target.variable),
+    };
+    let block = Block {
+        letters: call.letters,
+        source: call.source,
+    };
+    expression_fault(&scope, block, constant, nodes)?;
     Ok(())
 }
 

@@ -1,7 +1,7 @@
 //! What an opening comes to.
 ghost use Rattle.std.specs.Prelude.{◌≡◌, true};
 ghost use Rattle.layout.specs.Layouts.{blank, count as count_of};
-ghost use Rattle.planning.specs.Openings.{class_of, constants_for, data_for, offset_for, opening_fits, opened_as, opening as OpeningOf};
+ghost use Rattle.planning.specs.Openings.{constants_for, data_for, offset_for, opening_fits, opened_as, opening as OpeningOf};
 
 use crate::fault::StageFault;
 use crate::phase::{Incoming, check_phase};
@@ -11,18 +11,6 @@ use names::variable::Class;
 use records::counts::{Counts, Room};
 use records::limits;
 use records::record::TensorRecord;
-
-/// The class with a number: 0 constant, 1 data, 2 unstored.
-fn class_of(class: u8) -> Option<Class>
-    ensures { result ≡ class_of class }
-{
-    match class {
-        0 => Some(Class::Constant),
-        1 => Some(Class::Data),
-        2 => Some(Class::Unstored),
-        _ => None,
-    }
-}
 
 /// How many constants a tensor of a class takes.
 pub fn constants_taken(class: Class, places: usize) -> usize
@@ -113,5 +101,5 @@ pub fn plan_opening<C: Catalogue>(
         return Err(StageFault::Short);
     }
     check_phase(n.phase, Incoming::Opening)?;
-    open_as(c, n, room, layout, class_of(class))
+    open_as(c, n, room, layout, Class::try_from(class).ok())
 }

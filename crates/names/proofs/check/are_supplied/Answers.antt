@@ -1,11 +1,10 @@
-use Rattle.names.proofs.Standing.{unsupplied, supplied_more, supplied_all}
+use Rattle.std.proofs.Common.{ℕ, leb, ltb, ◌||◌, ◌∙◌, rules}
+use Rattle.std.proofs.lemmas.Iterator.{YieldsList-from_slice}
+use Rattle.std.proofs.lemmas.Iterator.Consumers.{YieldsList-from_enumerate}
+use Rattle.std.proofs.lemmas.Iterator.Search.{all_from_yields_List}
+use borrow.Author.Tests.{tests}
+use Rattle.names.proofs.Testing.{supplied_test}
 use Rattle.names.proofs.check.are_supplied.Goals as goal
 
-pub returns-then-not-rank-slots : goal.returns-then-not-rank-slots
-returns-then-not-rank-slots c = unsupplied c.args.source_rank c.args.rank c.args.slots.now c.loop-i.i c.loop-i-test.true c.if-not-rank-slots.true c.loop-i.invariant
-
-pub loop-i-preserved : goal.loop-i-preserved
-loop-i-preserved c = supplied_more c.args.source_rank c.args.rank c.args.slots.now c.loop-i.i c.loop-i-test.true c.if-not-rank-slots.false c.loop-i.invariant
-
 pub returns : goal.returns
-returns c = supplied_all c.args.source_rank c.args.rank c.args.slots.now c.loop-i.i c.loop-i-test.false c.loop-i.invariant
+returns c = all_from_yields_List (λ (p : ℕ × ℕ). leb c.args.rank p.1 || ltb p.0 c.args.source_rank) _ _ _ c.all.ensures.ran (YieldsList-from_enumerate (YieldsList-from_slice c.args.slots.now cc) cc) (λ x b q k. search (rules, tests)) ∙ supplied_test c.args.source_rank c.args.rank 0 c.args.slots.now

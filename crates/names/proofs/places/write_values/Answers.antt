@@ -1,21 +1,16 @@
-use Rattle.std.proofs.Common.{arith}
+use Rattle.std.proofs.Common.{length, arith, ap, ◌∙◌, Err}
 use Rattle.std.proofs.lemmas.Result.{err_from_is_err_and}
-use Rattle.names.specs.Outcomes.{value_by}
-use Rattle.names.proofs.Gathering.{front_more, front_stops, front_all}
+use Rattle.names.specs.Outcomes.{value_of}
+use Rattle.names.proofs.Gathering.{gathered_more, gathered_stops}
 use Rattle.names.proofs.places.write_values.Goals as goal
 
 pub returns-in_err-value : goal.returns-in_err-value
 returns-in_err-value g c =
-    let f = value_by (g.H.Host.answers c.args.host.now) (g.C.Catalogue.layouts c.args.c.now) c.args.variables.now c.args.constants.now c.args.block.now c.args.source c.args.nodes.now in
+    let f = value_of (g.H.Host.answers c.args.host.now) c.args.expression.now in
     let p = err_from_is_err_and c.from_residual.result c.from_residual.ensures.1 in
-    front_stops f c.args.out.now c.loop-k.out c.loop-k.out c.loop-k.k c.args.count c.in_err-value.field-0.0 p.0 c.from_residual.result c.loop-k-test.true c.in_err-value.ensures p.1 p.2 c.loop-k.invariant
+    rw (gathered_stops f c.loop-k.out c.loop-k.k c.loop-k.invariant (length c.args.out.now) c.in_err-value.field-0.0 (omega arith) c.in_err-value.ensures) (p.1 ∙ ap (λ y. Err y) p.2)
 
 pub loop-k-preserved : goal.loop-k-preserved
 loop-k-preserved g c =
-    let f = value_by (g.H.Host.answers c.args.host.now) (g.C.Catalogue.layouts c.args.c.now) c.args.variables.now c.args.constants.now c.args.block.now c.args.source c.args.nodes.now in
-    front_more f c.args.out.now c.loop-k.out c.loop-k.k c.in_ok-value.value (omega arith) c.in_ok-value.ensures c.loop-k.invariant
-
-pub returns : goal.returns
-returns g c =
-    let f = value_by (g.H.Host.answers c.args.host.now) (g.C.Catalogue.layouts c.args.c.now) c.args.variables.now c.args.constants.now c.args.block.now c.args.source c.args.nodes.now in
-    front_all f c.args.out.now c.loop-k.out c.loop-k.k c.args.count (omega arith) c.requires.room c.loop-k.invariant
+    let f = value_of (g.H.Host.answers c.args.host.now) c.args.expression.now in
+    gathered_more f c.loop-k.out c.loop-k.k c.loop-k.invariant c.in_ok-value.field-0 (omega arith) c.in_ok-value.ensures
