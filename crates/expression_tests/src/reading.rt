@@ -146,9 +146,7 @@ fn names(rt: HostRuntime) -> Result<(), Fail> {
     dense_names(&rt, &t);
     other_names(&rt, &t);
     // outside the shape: place 3 of dense 4, in a layout of 3
-    assert!(rt;
-        value_in(&t, None, block(1, b"i---", 5), 3, name(4, 1, b"i---")) == Ok(0.0)
-    );
+    assert!(rt; value_in(&t, None, block(1, b"i---", 5), 3, name(4, 1, b"i---")) == Ok(0.0));
     Ok(())
 }
 
@@ -224,9 +222,6 @@ fn not_in_a_constant_block(rt: HostRuntime) -> Result<(), Fail> {
     let time = [name(0, 0, b"----")];
     assert!(rt; fault(&t, None, block, false, &time) == Ok(()));
     let bad = [name(0, 5, b"----")];
-    assert!(rt;
-        fault(&t, None, block, false, &bad)
-            == Err(ExpressionFault::Malformed)
-    );
+    assert!(rt; fault(&t, None, block, false, &bad) == Err(ExpressionFault::Malformed));
     Ok(())
 }

@@ -29,7 +29,7 @@ impl Permutation {
         ensures { result.now ≡ slots_of self.now }
     {
         let n = self.count.min(8);
-        &self.slots[0..n]
+        &self.slots[..n]
     }
 }
 
