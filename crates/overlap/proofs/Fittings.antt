@@ -1,14 +1,14 @@
--- The row of an accepted translation.
-use Rattle.std.proofs.Common.{◌≡◌, ℕ, ◌<◌, ◌≤◌, List, length, get_or, ℤ, Some, Option, unwrap_or, sym, refl, ap, ◌∙◌, arith}
-use Rattle.layout.specs.Layouts.{Layout, AllValid, blank, count}
+-- The rows of an accepted translation and of a recorded block.
+use Rattle.std.proofs.Common.{◌≡◌, ℕ, ◌<◌, ◌≤◌, List, ℤ, Some, Option, unwrap_or, sym, refl, ap, ◌∙◌, arith}
+use Rattle.layout.specs.Layouts.{Layout, Valid, count}
 use Rattle.translation.specs.declared.kinds.TranslationTo.{TranslationTo}
 use Rattle.translation.specs.declared.kinds.TranslationTo.TheVariants.{Contiguous, Listed}
 use Rattle.translation.specs.declared.kinds.Translation.{Translation}
 use Rattle.translation.specs.Tos.{destination}
-use Rattle.translation.specs.Laws.{Lawful, LawfulIn}
+use Rattle.translation.specs.Laws.{Lawful}
 use Rattle.records.specs.declared.record.BlockEntry.{BlockEntry}
 use Rattle.overlap.specs.Clashes.{Rising, stored_at, clashes, first_that, first_clash}
-use Rattle.overlap.specs.Rows.{goes_by, Fitting}
+use Rattle.overlap.specs.Rows.{goes_by, Lined, new_row}
 use Rattle.overlap.proofs.Firsts.{first_alike}
 
 module _ (s v : Layout) (x : List ℤ) (g : Layout) (t : Translation) (l : Lawful s v x g t) where
@@ -33,14 +33,8 @@ module _ (s v : Layout) (x : List ℤ) (g : Layout) (t : Translation) (l : Lawfu
       e ∙ ap (first_that (λ k. stored_at bs is tensor (goes_by t.to v x g k))) l.as_many
       ∙ first_alike (λ k. stored_at bs is tensor (goes_by t.to v x g k)) (λ k. clashes bs is tensor (destination v x g k)) (count v) (λ k h. sym (ap (clashes bs is tensor) (lands k h)))
 
-pub fitting : (ls : List Layout) (source via : ℕ) (start : List ℤ) (target : ℕ) (t : Translation) → AllValid ls → via < length ls → target < length ls → LawfulIn ls source via start target t →
-    Fitting ls record { to = t.to; via = via; count = t.elements; start = start; target = target }
-fitting ls source via start target t valid hv ht l = record {
-  valid = valid;
-  via = hv;
-  target = ht;
-  counted = l.as_many;
-  some = (let m = l.as_many in let n = (valid via hv).some in omega arith);
-  rises = row_rises (get_or ls source blank) (get_or ls via blank) start (get_or ls target blank) t l;
-  low = row_low (get_or ls source blank) (get_or ls via blank) start (get_or ls target blank) t l (valid target ht).many;
-}
+  pub row_lined : Valid g → Lined (new_row (record { to = t.to; count = t.elements; via = v; start = x; target = g }))
+  row_lined h = record { rises = row_rises; low = row_low h.many }
+
+  pub row_some : Valid v → 0 < t.elements
+  row_some h = let m = l.as_many in let n = h.some in omega arith

@@ -18,7 +18,7 @@ same_start x y = (same_at 0 x y && same_at 1 x y) && (same_at 2 x y && same_at 3
 
 -- a block was called with these layouts and this start
 abbrev pub same_call : BlockEntry → ℕ → ℕ → List ℤ → ℕ → Bool
-same_call e source via start target = (e.source == source && e.via == via) && (e.target == target && same_start e.start start)
+same_call e source via start target = (e.route.source == source && e.route.via == via) && (e.route.target == target && same_start e.route.start start)
 
 -- what the first block that passes a test has
 abbrev pub of_first : {A : Type 0} → (BlockEntry → Bool) → (BlockEntry → Option A) → List BlockEntry → Option A
@@ -31,4 +31,4 @@ shared bs source via start target = of_first (λ e. same_call e source via start
 
 -- where the first block with a source has the places of that in the index table
 abbrev pub placed_at : List BlockEntry → ℕ → Option ℕ
-placed_at bs source = of_first (λ e. nat_eq e.source source) (λ e. e.places) bs
+placed_at bs source = of_first (λ e. nat_eq e.route.source source) (λ e. e.places) bs

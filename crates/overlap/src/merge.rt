@@ -1,104 +1,71 @@
-//! The first place that a new block shares with an earlier one.
+//! The first place that two rows share.
 ghost use Rattle.std.specs.Prelude.{◌≡◌, ◌-◌, ◌<◌, ◌≤◌, ◌⊎◌, Decides};
-ghost use Rattle.reader.specs.Rules.{destination as destination_of};
-ghost use Rattle.overlap.specs.Clashes.{Orderly};
-ghost use Rattle.overlap.specs.Rows.{goes, Fitting, Skips, first_shared};
+ghost use Rattle.overlap.specs.Rows.{Skips, shared_by};
 
 use crate::interval::{first_common, lie_apart};
-use crate::row::{NewBlock, new_place, old_place};
-use layout::catalogue::Catalogue;
-use reader::record::BlockRecord;
-use translation::kinds::TranslationTo;
+use crate::row::Row;
 
-/// From via place `from` on, the first of an earlier block that did not go before a place.
-fn skip_before(block: BlockRecord, indices: &[i32], from: usize, place: usize) -> usize
-    requires orderly { Orderly block indices.now }
-    requires within { from ≤ block.via }
-    ensures { Skips (destination_of block indices.now) block.via from place result }
+/// From number `from` on, the first of a row that is not before a place.
+fn skip_before<R: Row>(row: &R, from: usize, place: usize) -> usize
+    requires { from ≤ (R.places row.now).many }
+    ensures { Skips (R.places row.now).at (R.places row.now).many from place result }
 {
     let mut k = from;
-    while k < block.via && old_place(block, indices, k) < place {
+    while k < row.len() && row.place(k) < place {
         k += 1;
     }
     k
 }
 
-/// One pass over both rows, of which each rises.
-fn merged<C: Catalogue>(
-    catalogue: &C,
-    new: NewBlock,
-    block: BlockRecord,
-    indices: &[i32],
-) -> Option<usize>
-    requires fitting { Fitting (C.layouts catalogue.now) new }
-    requires orderly { Orderly block indices.now }
-    ensures { result ≡ first_shared (goes (C.layouts catalogue.now) new) new.count (destination_of block indices.now) block.via }
+/// One pass over both rows.
+fn merged<A: Row, B: Row>(a: &A, b: &B) -> Option<usize>
+    ensures { result ≡ shared_by (A.places a.now) (B.places b.now) }
 {
+    let count = b.len();
     let mut j = 0;
-    for k in 0..new.count {
-        let place = new_place(catalogue, new, k);
-        j = skip_before(block, indices, j, place);
-        if j == block.via {
+    for k in 0..a.len() {
+        let place = a.place(k);
+        j = skip_before(b, j, place);
+        if j == count {
             return None;
         }
-        if old_place(block, indices, j) == place {
+        if b.place(j) == place {
             return Some(k);
         }
     }
     None
 }
 
-/// Whether a row of a new block and that of an earlier one lie one before the other.
-fn ends_apart<C: Catalogue>(
-    catalogue: &C,
-    new: NewBlock,
-    block: BlockRecord,
-    indices: &[i32],
-) -> bool
-    requires fitting { Fitting (C.layouts catalogue.now) new }
-    requires orderly { Orderly block indices.now }
-    requires some { 0 < block.via }
-    ensures { Decides result ((goes (C.layouts catalogue.now) new (new.count - 1) < destination_of block indices.now 0) ⊎ (destination_of block indices.now (block.via - 1) < goes (C.layouts catalogue.now) new 0)) }
+/// Whether two rows lie one before the other.
+fn ends_apart<A: Row, B: Row>(a: &A, b: &B) -> bool
+    requires some { 0 < (A.places a.now).many }
+    requires other_some { 0 < (B.places b.now).many }
+    ensures { Decides result (((A.places a.now).at ((A.places a.now).many - 1) < (B.places b.now).at 0) ⊎ ((B.places b.now).at ((B.places b.now).many - 1) < (A.places a.now).at 0)) }
 {
     lie_apart(
-        new_place(catalogue, new, 0),
-        new_place(catalogue, new, new.count - 1),
-        old_place(block, indices, 0),
-        old_place(block, indices, block.via - 1),
+        a.place(0),
+        a.place(a.len() - 1),
+        b.place(0),
+        b.place(b.len() - 1),
     )
 }
 
-/// The first via place that goes where the earlier block went, unless both rows are intervals.
-fn listed_clash<C: Catalogue>(
-    catalogue: &C,
-    new: NewBlock,
-    block: BlockRecord,
-    indices: &[i32],
-) -> Option<usize>
-    requires fitting { Fitting (C.layouts catalogue.now) new }
-    requires orderly { Orderly block indices.now }
-    ensures { result ≡ first_shared (goes (C.layouts catalogue.now) new) new.count (destination_of block indices.now) block.via }
+/// The first place that two rows share, by their places.
+fn listed_clash<A: Row, B: Row>(a: &A, b: &B) -> Option<usize>
+    ensures { result ≡ shared_by (A.places a.now) (B.places b.now) }
 {
-    if block.via == 0 || ends_apart(catalogue, new, block, indices) {
+    if a.len() == 0 || b.len() == 0 || ends_apart(a, b) {
         return None;
     }
-    merged(catalogue, new, block, indices)
+    merged(a, b)
 }
 
-/// The first via place of a new block that goes where an earlier block went.
-pub(crate) fn clash_with<C: Catalogue>(
-    catalogue: &C,
-    new: NewBlock,
-    block: BlockRecord,
-    indices: &[i32],
-) -> Option<usize>
-    requires fitting { Fitting (C.layouts catalogue.now) new }
-    requires orderly { Orderly block indices.now }
-    ensures { result ≡ first_shared (goes (C.layouts catalogue.now) new) new.count (destination_of block indices.now) block.via }
+/// The number in row `a` of the first place that is in row `b` too.
+pub(crate) fn first_shared<A: Row, B: Row>(a: &A, b: &B) -> Option<usize>
+    ensures { result ≡ shared_by (A.places a.now) (B.places b.now) }
 {
-    match (new.to, block.to) {
-        (TranslationTo::Contiguous { start: a, .. }, TranslationTo::Contiguous { start: b, .. }) =>
-            first_common(a, new.count, b, block.via),
-        _ => listed_clash(catalogue, new, block, indices),
+    match (a.start(), b.start()) {
+        (Some(start), Some(other)) => first_common(start, a.len(), other, b.len()),
+        _ => listed_clash(a, b),
     }
 }

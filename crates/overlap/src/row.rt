@@ -1,47 +1,136 @@
-//! The places that blocks store into.
-ghost use Rattle.std.specs.Prelude.{◌≡◌, ◌<◌};
-ghost use Rattle.reader.specs.Rules.{destination as destination_of};
+//! The places that blocks store into, as rows.
+ghost use Rattle.std.specs.Prelude.{◌≡◌, ◌<◌, IfSome};
+ghost use Rattle.layout.specs.Layouts.{Layout};
+ghost use Rattle.translation.specs.Laws.{Lawful};
 ghost use Rattle.overlap.specs.Clashes.{Orderly};
-ghost use Rattle.overlap.specs.Rows.{goes, Fitting};
+ghost use Rattle.reader.specs.Accepted.{Spanned};
+ghost use Rattle.overlap.specs.Rows.{Places, Going, Lined, Running, new_row, old_row};
 
 use layout::catalogue::Catalogue;
-use layout::index::Index;
 use reader::record::BlockRecord;
-use translation::kinds::TranslationTo;
+use std::marker::Model;
+use translation::kinds::{Translation, TranslationTo};
+use translation::route::Routed;
 use translation::target::destination;
 
-/// Where a new block goes: by way of the `count` places of a via, from a start on in its target.
-#[derive(Clone, Copy)]
-pub(crate) struct NewBlock {
-    pub(crate) to: TranslationTo,
-    pub(crate) via: usize,
-    pub(crate) count: usize,
-    pub(crate) start: Index,
-    pub(crate) target: usize,
+/// A row of places, of which each is above the one before it.
+pub(crate) trait Row {
+    // The places, by number from 0.
+    ghost places: { Self → Places };
+
+    /// How many places there are.
+    fn len(&self) -> usize
+        ensures is { result ≡ (places self.now).many }
+        ensures lined { Lined (places self.now) };
+
+    /// The place with a number.
+    fn place(&self, k: usize) -> usize
+        requires { k < (places self.now).many }
+        ensures { result ≡ (places self.now).at k };
+
+    /// The first of the places, where they are told to follow one another.
+    fn start(&self) -> Option<usize>
+        ensures { IfSome result (Running (places self.now)) };
 }
 
-/// Where via place k of a new block goes.
-pub(crate) fn new_place<C: Catalogue>(catalogue: &C, new: NewBlock, k: usize) -> usize
-    requires fitting { Fitting (C.layouts catalogue.now) new }
-    requires there { k < new.count }
-    ensures { result ≡ goes (C.layouts catalogue.now) new k }
-{
-    match new.to {
-        TranslationTo::Contiguous { start, .. } => start + k,
-        TranslationTo::Listed => destination(
-            catalogue, new.via, new.start, new.target, k,
-        ).unwrap_or(0),
+/// Where a new block goes.
+#[derive(Drop)]
+pub(crate) struct NewRow<'a, C: Catalogue> {
+    to: TranslationTo,
+    count: usize,
+    block: &'a Routed<'a, C>,
+}
+
+impl<'a, C: Catalogue> Model for NewRow<'a, C> {
+    ghost Value = { Going };
+
+    ghost view = { λ r. record { to = r.to; count = r.count; via = r.block.now.via; start = r.block.now.start; target = r.block.now.target } };
+
+    ghost invariant = { λ r. (0 < r.count) × Lined (new_row (record { to = r.to; count = r.count; via = r.block.now.via; start = r.block.now.start; target = r.block.now.target })) };
+}
+
+impl<'a, C: Catalogue> NewRow<'a, C> {
+    /// Where a block goes by its accepted translation.
+    pub(crate) fn new(translation: Translation, block: &'a Routed<'a, C>) -> NewRow<'a, C>
+        requires { (source : Layout) × Lawful source block.now.via block.now.start block.now.target translation }
+        ensures { result ≡ record { to = translation.to; count = translation.elements; via = block.now.via; start = block.now.start; target = block.now.target } }
+    {
+        // The counts say that both layouts are valid.
+        let _ = block.via.count();
+        let _ = block.target.count();
+        NewRow {
+            to: translation.to,
+            count: translation.elements as usize,
+            block,
+        }
     }
 }
 
-/// Where via place k of an earlier block went.
-pub(crate) fn old_place(block: BlockRecord, indices: &[i32], k: usize) -> usize
-    requires orderly { Orderly block indices.now }
-    requires there { k < block.via }
-    ensures { result ≡ destination_of block indices.now k }
-{
-    match block.to {
-        TranslationTo::Contiguous { start, .. } => start + k,
-        TranslationTo::Listed => indices[block.list + k] as usize,
+impl<'a, C: Catalogue> Row for NewRow<'a, C> {
+    ghost places = { new_row };
+
+    fn len(&self) -> usize {
+        self.count
+    }
+
+    fn place(&self, k: usize) -> usize {
+        match self.to {
+            TranslationTo::Contiguous { start, .. } => start + k,
+            TranslationTo::Listed => destination(self.block, k).unwrap_or(0),
+        }
+    }
+
+    fn start(&self) -> Option<usize> {
+        match self.to {
+            TranslationTo::Contiguous { start, .. } => Some(start),
+            TranslationTo::Listed => None,
+        }
+    }
+}
+
+/// Where an earlier block went.
+#[derive(Drop)]
+pub(crate) struct OldRow<'a> {
+    block: BlockRecord,
+    indices: &'a [i32],
+}
+
+impl<'a> Model for OldRow<'a> {
+    ghost Value = { Spanned };
+
+    ghost view = { λ r. record { block = r.block; indices = r.indices.now } };
+
+    ghost invariant = { λ r. Orderly r.block r.indices.now };
+}
+
+impl<'a> OldRow<'a> {
+    /// Where a block went by its record and an index table that has its entries.
+    pub(crate) fn new(block: BlockRecord, indices: &'a [i32]) -> OldRow<'a>
+        requires { Orderly block indices.now }
+        ensures { result ≡ record { block = block; indices = indices.now } }
+    {
+        OldRow { block, indices }
+    }
+}
+
+impl<'a> Row for OldRow<'a> {
+    ghost places = { old_row };
+
+    fn len(&self) -> usize {
+        self.block.via
+    }
+
+    fn place(&self, k: usize) -> usize {
+        match self.block.to {
+            TranslationTo::Contiguous { start, .. } => start + k,
+            TranslationTo::Listed => self.indices[self.block.list + k] as usize,
+        }
+    }
+
+    fn start(&self) -> Option<usize> {
+        match self.block.to {
+            TranslationTo::Contiguous { start, .. } => Some(start),
+            TranslationTo::Listed => None,
+        }
     }
 }

@@ -199,10 +199,7 @@ module _ (ls : List Layout) (m : Model) (call : BlockCall) (ns : List Node) (p :
   abbrev pub new_block : BlockEntry
   new_block = record {
     tensor = open_number m.counts;
-    source = call.source;
-    via = call.via;
-    start = call.start;
-    target = target.layout;
+    route = record { source = call.source; via = call.via; start = call.start; target = target.layout };
     places = places_then (get_or ls call.source blank).kind (placed_at m.blocks call.source) m.counts.indices;
     read = new_record;
   }

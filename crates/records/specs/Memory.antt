@@ -60,10 +60,7 @@ no_tensor = record { layout = 0; places = 0; class = Unstored; offset = 0; varia
 abbrev pub no_block : BlockEntry
 no_block = record {
   tensor = 0;
-  source = 0;
-  via = 0;
-  start = [];
-  target = 0;
+  route = record { source = 0; via = 0; start = []; target = 0 };
   places = None;
   read = record { from = ElementWise; to = Listed; via = 0; source = 0; target = 0; ranges = 0; list = 0 };
 }

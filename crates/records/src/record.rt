@@ -1,9 +1,9 @@
 //! The records of the stage's tables.
 use expression::node::VariableNumber;
-use layout::index::Index;
 use names::permutation::Permutation;
 use names::variable::Class;
 use reader::record::BlockRecord;
+use translation::route::Route;
 
 /// A tensor: its layout with the count of its places, its class, where its values begin, and the
 /// number of its variable. An unstored one has the offset 0.
@@ -16,15 +16,12 @@ pub struct TensorRecord {
     pub variable: VariableNumber,
 }
 
-/// A block: the tensor that it stores into, the layouts of its call, where the places of a sparse
-/// source are in the index table, and what the reader follows.
+/// A block: the tensor that it stores into, its route, where the places of a sparse source are in the
+/// index table, and what the reader follows.
 #[derive(Clone, Copy)]
 pub struct BlockEntry {
     pub tensor: usize,
-    pub source: usize,
-    pub via: usize,
-    pub start: Index,
-    pub target: usize,
+    pub route: Route,
     pub places: Option<usize>,
     pub read: BlockRecord,
 }

@@ -1,15 +1,14 @@
 use Rattle.std.proofs.Common.{arith}
-use Rattle.reader.specs.Rules.{destination}
-use Rattle.overlap.specs.Rows.{goes}
-use Rattle.overlap.proofs.Merging.{shared_none, ends_apart}
+use Rattle.overlap.proofs.Merging.{empty_none, ends_apart}
 use Rattle.overlap.proofs.merge.listed_clash.Goals as goal
-use Rattle.overlap.proofs.merge.listed_clash.Goals.{then-block-eq0-via-then-block-eq0, then-block-eq0-via-else-block-eq0+then-ends_apart}
+use Rattle.overlap.proofs.merge.listed_clash.Goals.{then-len-eq0-via-then-len-eq0, then-len-eq0-via-else-len-eq0+then-len-eq0-2, then-len-eq0-via-else-len-eq0+else-len-eq0-2+then-ends_apart}
 
-pub returns-then-block-eq0 : goal.returns-then-block-eq0
-returns-then-block-eq0 g c =
-    let f = goes (g.C.Catalogue.layouts c.args.catalogue.now) c.args.new in
-    let d = destination c.args.block c.args.indices.now in
-    elim c.then-block-eq0.branch [
-      | then-block-eq0-via-then-block-eq0 w ↦ shared_none f c.args.new.count d c.args.block.via (λ k h j l e. omega (arith, w.if-block-eq0.true))
-      | then-block-eq0-via-else-block-eq0+then-ends_apart w ↦ ends_apart f c.args.new.count d c.args.block.via c.requires.fitting.rises c.requires.orderly.rises (w.ends_apart.ensures.0 w.if-ends_apart.true)
+pub returns-then-len-eq0 : goal.returns-then-len-eq0
+returns-then-len-eq0 g c =
+    let p = g.A.Row.places c.args.a.now in
+    let q = g.B.Row.places c.args.b.now in
+    elim c.then-len-eq0.branch [
+      | then-len-eq0-via-then-len-eq0 w ↦ empty_none p q (omega (arith, w.if-len-eq0.true))
+      | then-len-eq0-via-else-len-eq0+then-len-eq0-2 w ↦ empty_none p q (omega (arith, w.if-len-eq0-2.true))
+      | then-len-eq0-via-else-len-eq0+else-len-eq0-2+then-ends_apart w ↦ ends_apart p q c.len.ensures.lined w.len-else-len-eq0.ensures.lined (w.ends_apart.ensures.0 w.if-ends_apart.true)
     ]

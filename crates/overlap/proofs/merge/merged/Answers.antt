@@ -1,27 +1,21 @@
 use Rattle.std.proofs.Common.{sym, ◌∙◌, arith}
-use Rattle.reader.specs.Rules.{destination}
-use Rattle.overlap.specs.Rows.{goes}
 use Rattle.overlap.proofs.Merging.{met_more, met_found, met_past, met_all}
 use Rattle.overlap.proofs.merge.merged.Goals as goal
 
-pub returns-then-j-block : goal.returns-then-j-block
-returns-then-j-block g c =
-    met_past (goes (g.C.Catalogue.layouts c.args.catalogue.now) c.args.new) c.args.new.count (destination c.args.block c.args.indices.now) c.args.block.via
-    c.requires.fitting.rises c.requires.orderly.rises c.loop-k.k c.loop-k.j c.new_place-place.result c.skip_before-j.result c.loop-k.invariant c.loop-k-test.true c.new_place-place.ensures c.skip_before-j.ensures
-    (omega (arith, c.if-j-block.true))
+pub returns-then-j-count : goal.returns-then-j-count
+returns-then-j-count g c =
+    met_past (g.A.Row.places c.args.a.now) (g.B.Row.places c.args.b.now) c.len-k-end.ensures.lined c.len-count.ensures.lined c.loop-k.k c.loop-k.j _ _
+    c.loop-k.invariant (omega arith) c.place-place.ensures c.skip_before-j.ensures (omega arith)
 
-pub returns-then-old_place-place : goal.returns-then-old_place-place
-returns-then-old_place-place g c =
-    met_found (goes (g.C.Catalogue.layouts c.args.catalogue.now) c.args.new) c.args.new.count (destination c.args.block c.args.indices.now) c.args.block.via
-    c.requires.fitting.rises c.requires.orderly.rises c.loop-k.k c.loop-k.j c.new_place-place.result c.skip_before-j.result c.loop-k.invariant c.loop-k-test.true c.new_place-place.ensures c.skip_before-j.ensures
-    (omega (arith, c.if-j-block.false, c.skip_before-j.ensures.within)) (sym c.old_place.ensures ∙ c.if-old_place-place.true)
+pub returns-then-place : goal.returns-then-place
+returns-then-place g c =
+    met_found (g.A.Row.places c.args.a.now) (g.B.Row.places c.args.b.now) c.len-k-end.ensures.lined c.len-count.ensures.lined c.loop-k.k c.loop-k.j _ _
+    c.loop-k.invariant (omega arith) c.place-place.ensures c.skip_before-j.ensures (omega arith) (sym c.place.ensures ∙ c.if-place.true)
 
 pub loop-k-preserved : goal.loop-k-preserved
 loop-k-preserved g c =
-    met_more (goes (g.C.Catalogue.layouts c.args.catalogue.now) c.args.new) c.args.new.count (destination c.args.block c.args.indices.now) c.args.block.via
-    c.requires.fitting.rises c.requires.orderly.rises c.loop-k.k c.loop-k.j c.new_place-place.result c.skip_before-j.result c.loop-k.invariant c.loop-k-test.true c.new_place-place.ensures c.skip_before-j.ensures
-    (λ _ e. c.if-old_place-place.false (c.old_place.ensures ∙ e))
+    met_more (g.A.Row.places c.args.a.now) (g.B.Row.places c.args.b.now) c.len-k-end.ensures.lined c.len-count.ensures.lined c.loop-k.k c.loop-k.j _ _
+    c.loop-k.invariant (omega arith) c.place-place.ensures c.skip_before-j.ensures (λ _ e. c.if-place.false (c.place.ensures ∙ e))
 
 pub returns : goal.returns
-returns g c =
-    met_all (goes (g.C.Catalogue.layouts c.args.catalogue.now) c.args.new) c.args.new.count (destination c.args.block c.args.indices.now) c.args.block.via c.loop-k.k c.loop-k.j c.loop-k-test.false c.loop-k.invariant
+returns g c = met_all (g.A.Row.places c.args.a.now) (g.B.Row.places c.args.b.now) c.loop-k.k c.loop-k.j (omega arith) c.loop-k.invariant

@@ -1,13 +1,20 @@
-use Rattle.std.proofs.Common.{Some}
+use Rattle.std.proofs.Common.{Some, ◌∙◌, rules}
+use borrow.Author.Tests.{tests}
+use Rattle.std.proofs.lemmas.Iterator.{YieldsList-from_slice}
+use Rattle.std.proofs.lemmas.Iterator.Search.{find_from_yields_List}
 use Rattle.overlap.specs.Sharing.{same_call}
-use Rattle.overlap.proofs.Finds.{found, passed, none}
+use Rattle.overlap.proofs.Finds.{found_none, found_some}
 use Rattle.overlap.proofs.shared.shared_entries.Goals as goal
 
-pub returns-then-same_call : goal.returns-then-same_call
-returns-then-same_call c = found (λ e. same_call e c.args.source c.args.via c.args.start c.args.target) (λ e. Some e.read) c.args.blocks.now c.loop-i.i c.loop-i.invariant _ c.loop-i-test.true c.if-same_call.ensures
-
-pub loop-i-preserved : goal.loop-i-preserved
-loop-i-preserved c = passed (λ e. same_call e c.args.source c.args.via c.args.start c.args.target) (λ e. Some e.read) c.args.blocks.now c.loop-i.i c.loop-i.invariant _ c.loop-i-test.true c.if-same_call.ensures
+pub returns-in_err-entry : goal.returns-in_err-entry
+returns-in_err-entry c =
+    let r = c.args.route in
+    c.from_residual.ensures
+    ∙ found_none (λ e. same_call e r.source r.via r.start r.target) (λ e. Some e.read) c.args.blocks.now c.find.result
+    (find_from_yields_List _ _ _ c.find.result c.find.ensures.ran (YieldsList-from_slice _ c.iter.ensures.rest) (λ x b q k. search (rules, tests))) c.in_err-entry.was
 
 pub returns : goal.returns
-returns c = none (λ e. same_call e c.args.source c.args.via c.args.start c.args.target) (λ e. Some e.read) c.args.blocks.now c.loop-i.i c.loop-i.invariant c.loop-i-test.false
+returns c =
+    let r = c.args.route in
+    found_some (λ e. same_call e r.source r.via r.start r.target) (λ e. Some e.read) c.args.blocks.now c.find.result c.in_ok-entry.entry
+    (find_from_yields_List _ _ _ c.find.result c.find.ensures.ran (YieldsList-from_slice _ c.iter.ensures.rest) (λ x b q k. search (rules, tests))) c.in_ok-entry.was
