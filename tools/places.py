@@ -87,6 +87,23 @@ for group, places in groups.items():
     if len({p[2] for p in places}) >= 3:
         for file, line, name in places:
             note(5, "parameters that travel together", file, line, f"{name}: {', '.join(group)}")
+runs = collections.defaultdict(list)
+for file, text in sources.items():
+    if "_tests/" in file or "cases/" in file:
+        continue
+    code = [(n, re.sub(r"\s+", " ", line.strip())) for n, line in enumerate(text.split("\n"), 1)]
+    code = [(n, line) for n, line in code if line and not line.startswith(("//", "use ", "ghost use ", "#["))]
+    for i in range(len(code) - 5):
+        window = tuple(re.sub(r"\d+", "0", line) for _, line in code[i : i + 6])
+        if sum(len(line) for line in window) > 60:
+            runs[window].append((file, code[i][0]))
+last = {}
+for window, places in runs.items():
+    if len(places) > 1:
+        for file, line in places:
+            if last.get(file, -9) < line - 1:
+                note(2, "six lines or more that stand elsewhere too", file, line, window[0])
+            last[file] = max(last.get(file, -9), line)
 proofs = glob.glob(root + "/crates/*/proofs/**/*.antt", recursive=True)
 for (point, kind), places in sorted(found.items()):
     print(f"{point}. {kind}: {len(places)}")
