@@ -59,7 +59,7 @@ pub(crate) fn is_level(rank: usize, n: [usize; 4]) -> bool
     ensures axes { result ≡ equal_axes rank n }
     ensures level { Decides result (Level rank (place (slice_index n 0) (slice_index n 1) (slice_index n 2) (slice_index n 3))) }
 {
-    n.iter().take(rank).all(|x| *x == n[0])
+    (1..4).all(|i| rank <= i || n[i] == n[0])
 }
 
 /// The number of a place of a diagonal; none off it.

@@ -15,21 +15,18 @@ pub struct GridShape {
 
 impl GridShape {
     fn axis_length(&self, i: usize) -> usize
-        requires { i < 4 }
         ensures { result ≡ axis (grid_shape self.now) i }
     {
-        if i < self.rank { self.lengths[i] } else { 1 }
+        match self.lengths.get(i) {
+            Some(length) if i < self.rank => *length,
+            _ => 1,
+        }
     }
 
     /// The lengths, 1 from the rank on.
     pub fn padded(&self) -> [usize; 4]
         ensures { result ≡ axis (grid_shape self.now) 0 ∷ axis (grid_shape self.now) 1 ∷ axis (grid_shape self.now) 2 ∷ axis (grid_shape self.now) 3 ∷ [] }
     {
-        [
-            self.axis_length(0),
-            self.axis_length(1),
-            self.axis_length(2),
-            self.axis_length(3),
-        ]
+        [0, 1, 2, 3].map(|i| self.axis_length(i))
     }
 }

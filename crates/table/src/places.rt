@@ -78,12 +78,7 @@ impl<'a> Places<'a> {
         requires { k < self.now.layout.count }
         ensures { result ≡ entries (record_place self.now.pool.now self.now.layout k) }
     {
-        [
-            self.entry(k, 0),
-            self.entry(k, 1),
-            self.entry(k, 2),
-            self.entry(k, 3),
-        ]
+        [0, 1, 2, 3].map(|i| self.entry(k, i))
     }
 
     fn place_inside(&self, n: [usize; 4], k: usize) -> bool
