@@ -7,12 +7,26 @@ ghost use Rattle.translation.specs.Entries.{entries_of as entries_between};
 ghost use Rattle.translation.specs.Outcome.{from_asked, translated};
 ghost use Rattle.report.specs.Translations.{origin_index};
 
+use design::ask::Entries;
 use layout::catalogue::Catalogue;
 use layout::layout_ref::LayoutRef;
 use std::alloc::{AllocError, Global};
 use translation::entries::to_data_layout;
 use translation::kinds::{Translation, TranslationFault, TranslationFrom, TranslationTo};
 use translation::route::Route;
+
+/// The route that a question gives.
+pub(crate) fn asked_route(source: usize, via: usize, start: Entries, target: usize) -> Route
+    ensures { result ≡ record { source = source; via = via; start = start.index; target = target } }
+{
+    let start = start.index;
+    Route {
+        source,
+        via,
+        start,
+        target,
+    }
+}
 
 /// A translation along a route whose layouts the catalogue has. It has as many entries as it says.
 #[derive(Drop)]
