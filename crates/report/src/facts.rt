@@ -103,6 +103,7 @@ fn put_question<C: Catalogue>(out: &mut String, c: &C, question: Question) -> Re
 }
 
 /// Writes a fact for each layout, and then one for each question.
+#[tactic(auto, using(crate::proofs::Texts::more_counted))]
 pub fn put_facts<C: Catalogue>(
     out: &mut String,
     c: &C,
