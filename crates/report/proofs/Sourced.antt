@@ -1,10 +1,10 @@
 -- What is known of the layouts of a kind that there is.
-use Rattle.std.proofs.Common.{◌≡◌, ℕ, ◌<◌, Bool, true, false, cond, ◌&&◌, List, length, get_or, Some, None, Ok, Err, Option, Result, sym, refl, ap, ◌∙◌, arith}
+use Rattle.std.proofs.Common.{◌≡◌, ℕ, ◌<◌, Bool, true, false, cond, ◌&&◌, List, length, get_or, Some, None, Ok, Err, Option, Result, sym, refl, ap, ◌∙◌}
 use Rattle.std.proofs.lemmas.Bool.{ltb-true, eqb-true, and_parts}
 use Rattle.layout.specs.Layouts.{Layout, blank, count, rank}
 use Rattle.layout.specs.Answers.{shape_of}
 use Rattle.translation.specs.declared.kinds.TranslationFault.{TranslationFault}
-use Rattle.translation.specs.declared.kinds.TranslationFault.TheVariants.{Unknown, NoTranslation, Elements}
+use Rattle.translation.specs.declared.kinds.TranslationFault.TheVariants.{Unknown, Elements}
 use Rattle.translation.specs.declared.kinds.TranslationFrom.{TranslationFrom}
 use Rattle.translation.specs.Cuts.{ranges}
 use Rattle.translation.specs.Entries.{from_entries, from_count}

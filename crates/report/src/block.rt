@@ -31,9 +31,9 @@ pub(crate) fn asked_route(source: usize, via: usize, start: Entries, target: usi
 /// A translation along a route whose layouts the catalogue has. It has as many entries as it says.
 #[derive(Drop)]
 pub struct Block<'a, C: Catalogue> {
-    catalogue: &'a C,
-    route: Route,
-    translation: Translation,
+    pub catalogue: &'a C,
+    pub route: Route,
+    pub translation: Translation,
     ghost source: { route.source < length (C.layouts catalogue.now) },
     ghost via: { route.via < length (C.layouts catalogue.now) },
     ghost target: { route.target < length (C.layouts catalogue.now) },
@@ -84,13 +84,6 @@ impl<'a, C: Catalogue> Block<'a, C> {
                 elements,
             },
         })
-    }
-
-    /// Its translation.
-    pub(crate) fn translation(&self) -> Translation
-        ensures { result ≡ self.now.translation }
-    {
-        self.translation
     }
 
     /// Its entries in the index table.
