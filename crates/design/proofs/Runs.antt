@@ -1,5 +1,6 @@
 -- The words of a text as an iterator over them goes along.
-use Rattle.std.proofs.Common.{◌≡◌, ℕ, ◌<◌, Bool, true, false, not, ◌&&◌, List, [], ◌∷◌, ◌++◌, map, length, Some, None, IsUtf8, Option, sym, refl, ap, ◌∙◌, subst, append_assoc, append-nil, arith, length-append, Bor, MatchOption}
+use Rattle.std.proofs.Common.{◌≡◌, ℕ, ◌<◌, true, List, [], ◌∷◌, ◌++◌, map, length, Some, None, IsUtf8, Option, sym, refl, ap, ◌∙◌, subst, append_assoc, append-nil, arith, length-append, Bor, MatchOption}
+use Rattle.std.proofs.lemmas.Bool.{and_parts, not-false}
 use lib.Utf8.{encode, encodes, scalar, scalars}
 use Rattle.std.specs.Char.{is_whitespace, is_not_whitespace}
 use Rattle.std.specs.Str.{NonePass, NoCharPasses, EmptyOrStartsWithPassing, chars}
@@ -16,22 +17,14 @@ past (g ∷ gs) es rest e =
     let q = past gs p.0 rest p.2 in
     (q.0, p.1 ∙ ap (λ l. g ∷ l) q.1, q.2)
 
-second : (a b : Bool) → a && b ≡ true → b ≡ true
-second true b e = e
-second false b e = let z : ◌≡◌ {A = ℕ} 0 1 = cc in absurd (omega arith)
-
 scalars_after : (gs fs : List ℕ) → scalars (gs ++ fs) ≡ true → scalars fs ≡ true
 scalars_after [] fs e = e
-scalars_after (g ∷ gs) fs e = scalars_after gs fs (second (scalar g) (scalars (gs ++ fs)) e)
-
-not_dark : (b : Bool) → not b ≡ false → b ≡ true
-not_dark true e = refl
-not_dark false e = sym e
+scalars_after (g ∷ gs) fs e = scalars_after gs fs (and_parts (scalar g) (scalars (gs ++ fs)) e).1
 
 -- white characters in front make no run
 runs_blank : (gs cs : List ℕ) → NonePass is_not_whitespace gs → runs (gs ++ cs) ≡ runs cs
 runs_blank [] cs h = refl
-runs_blank (g ∷ gs) cs h = let w = not_dark (is_whitespace g) h.0 in rw w (runs_blank gs cs h.1)
+runs_blank (g ∷ gs) cs h = let w = not-false (is_whitespace g) h.0 in rw w (runs_blank gs cs h.1)
 
 -- the characters cs end, or go on with a white one
 abbrev Ends : List ℕ → Type 0

@@ -4,6 +4,7 @@ ghost use Rattle.std.specs.declared.num.ParseIntError.{ParseIntError};
 ghost use Rattle.std.specs.Str.Parse.{error_kind};
 ghost use Rattle.design.specs.Numbers.{blame, blamed, four};
 
+use std::array;
 use std::num::{IntErrorKind, ParseIntError};
 use std::str::FromStr;
 
@@ -35,20 +36,9 @@ pub fn number<N: FromStr<Err = ParseIntError>>(word: &str) -> Result<N, NumberFa
     Ok(word.parse::<N>()?)
 }
 
-fn item_or<T: Copy>(items: &[T], i: usize, beyond: T) -> T
-    ensures { result ≡ slice_index_or items.now i beyond }
-{
-    items.get(i).copied().unwrap_or(beyond)
-}
-
 /// The first four of some items, and `beyond` where there are fewer.
 pub fn first_four<T: Copy>(items: &[T], beyond: T) -> [T; 4]
     ensures { result ≡ four beyond items.now }
 {
-    [
-        item_or(items, 0, beyond),
-        item_or(items, 1, beyond),
-        item_or(items, 2, beyond),
-        item_or(items, 3, beyond),
-    ]
+    array::from_fn(|i| items.get(i).copied().unwrap_or(beyond))
 }

@@ -1,10 +1,10 @@
 -- What is known of the layouts of a kind that there is.
-use Rattle.std.proofs.Common.{◌≡◌, ℕ, ◌<◌, Bool, true, false, cond, ◌&&◌, List, length, get_or, Some, None, Ok, Err, Option, Result, sym, refl, ap, ◌∙◌, arith}
+use Rattle.std.proofs.Common.{◌≡◌, ℕ, ◌<◌, Bool, true, false, cond, ◌&&◌, List, length, get_or, Some, None, Ok, Err, Option, Result, sym, refl, ap, ◌∙◌}
 use Rattle.std.proofs.lemmas.Bool.{ltb-true, eqb-true, and_parts}
 use Rattle.layout.specs.Layouts.{Layout, blank, count, rank}
 use Rattle.layout.specs.Answers.{shape_of}
 use Rattle.translation.specs.declared.kinds.TranslationFault.{TranslationFault}
-use Rattle.translation.specs.declared.kinds.TranslationFault.TheVariants.{Unknown, NoTranslation, Elements}
+use Rattle.translation.specs.declared.kinds.TranslationFault.TheVariants.{Unknown, Elements}
 use Rattle.translation.specs.declared.kinds.TranslationFrom.{TranslationFrom}
 use Rattle.translation.specs.Cuts.{ranges}
 use Rattle.translation.specs.Entries.{from_entries, from_count}
@@ -12,15 +12,12 @@ use Rattle.translation.specs.Froms.{from_of}
 use Rattle.translation.specs.Outcome.{known, ranges_fit, or_refused, from_between, from_asked}
 use Rattle.translation.proofs.Entering.{from_long}
 
-err_ok : {X Y : Type 0} (y : Y) (x : X) → Err y ≡ Ok x → ⊥
-err_ok y x e = let z : ◌≡◌ {A = ℕ} 0 1 = cc in omega arith
-
 ok_then : {X : Type 0} (b : Bool) (y : Result X TranslationFault) (f : TranslationFault) (x : X) → cond b y (Err f) ≡ Ok x → (b ≡ true) × (y ≡ Ok x)
 ok_then true y f x e = (refl, e)
-ok_then false y f x e = absurd (err_ok f x e)
+ok_then false y f x e = cc
 
 fits : (o : Option TranslationFrom) (s v : Layout) (f : TranslationFrom) → or_refused o s v ≡ Ok f → ranges_fit f s v ≡ true
-fits None s v f e = absurd (err_ok NoTranslation f e)
+fits None s v f e = cc
 fits (Some g) s v f e =
     let a = ok_then (ranges_fit g s v) (Ok g) Elements f e in
     let b = a.1 in

@@ -7,6 +7,7 @@ ghost use Rattle.translation.specs.Entries.{entries_of as entries_between};
 ghost use Rattle.translation.specs.Outcome.{from_asked, translated};
 ghost use Rattle.report.specs.Translations.{origin_index};
 
+use design::ask::Entries;
 use layout::catalogue::Catalogue;
 use layout::layout_ref::LayoutRef;
 use std::alloc::{AllocError, Global};
@@ -14,12 +15,25 @@ use translation::entries::to_data_layout;
 use translation::kinds::{Translation, TranslationFault, TranslationFrom, TranslationTo};
 use translation::route::Route;
 
+/// The route that a question gives.
+pub(crate) fn asked_route(source: usize, via: usize, start: Entries, target: usize) -> Route
+    ensures { result ≡ record { source = source; via = via; start = start.index; target = target } }
+{
+    let start = start.index;
+    Route {
+        source,
+        via,
+        start,
+        target,
+    }
+}
+
 /// A translation along a route whose layouts the catalogue has. It has as many entries as it says.
 #[derive(Drop)]
 pub struct Block<'a, C: Catalogue> {
-    catalogue: &'a C,
-    route: Route,
-    translation: Translation,
+    pub catalogue: &'a C,
+    pub route: Route,
+    pub translation: Translation,
     ghost source: { route.source < length (C.layouts catalogue.now) },
     ghost via: { route.via < length (C.layouts catalogue.now) },
     ghost target: { route.target < length (C.layouts catalogue.now) },
@@ -70,13 +84,6 @@ impl<'a, C: Catalogue> Block<'a, C> {
                 elements,
             },
         })
-    }
-
-    /// Its translation.
-    pub(crate) fn translation(&self) -> Translation
-        ensures { result ≡ self.now.translation }
-    {
-        self.translation
     }
 
     /// Its entries in the index table.

@@ -7,6 +7,7 @@ ghost use Rattle.report.specs.Facts.{after_blank, before_blank, layout_fact, ans
 ghost use Rattle.design.specs.Texts.{words};
 
 use crate::answer::{Answer, Found, lookup_answer, place_answer};
+use crate::block::asked_route;
 use crate::text::{first, put_joined, put_refusal};
 use crate::translations::{put_from, put_trans};
 use design::ask::{Ask, Question};
@@ -15,7 +16,6 @@ use layout::catalogue::Catalogue;
 use layout::layout_ref::LayoutRef;
 use layout::shape::Shape;
 use std::alloc::AllocError;
-use translation::route::Route;
 
 // Writes lengths, each after a blank.
 fn put_lengths(out: &mut String, lengths: &[usize]) -> Result<(), AllocError>
@@ -78,16 +78,7 @@ fn put_asked<C: Catalogue>(out: &mut String, c: &C, ask: Ask) -> Result<(), Allo
             via,
             target,
             start,
-        } => {
-            let start = start.index;
-            let route = Route {
-                source,
-                via,
-                start,
-                target,
-            };
-            put_trans(out, c, route)
-        }
+        } => put_trans(out, c, asked_route(source, via, start, target)),
     }
 }
 
@@ -112,6 +103,7 @@ fn put_question<C: Catalogue>(out: &mut String, c: &C, question: Question) -> Re
 }
 
 /// Writes a fact for each layout, and then one for each question.
+#[tactic(auto, using(crate::proofs::Texts::more_counted))]
 pub fn put_facts<C: Catalogue>(
     out: &mut String,
     c: &C,

@@ -1,5 +1,6 @@
 //! A report in plain words.
 use crate::answer::{Answer, Found, lookup_answer, place_answer};
+use crate::block::asked_route;
 use crate::picture::put_picture;
 use crate::text::{first, put_joined, put_refused};
 use crate::words::{put_from_words, put_trans_words};
@@ -9,7 +10,6 @@ use layout::catalogue::Catalogue;
 use layout::layout_ref::LayoutRef;
 use layout::shape::Shape;
 use std::alloc::AllocError;
-use translation::route::Route;
 
 fn put_shape(out: &mut String, shape: Shape) -> Result<(), AllocError> {
     if shape.rank == 0 {
@@ -88,14 +88,7 @@ fn put_asked<C: Catalogue>(out: &mut String, c: &C, ask: Ask) -> Result<(), Allo
             write!(out, "from layout {source} by way of layout {via} to ")?;
             put_entries(out, start)?;
             write!(out, " in layout {target}: ")?;
-            let start = start.index;
-            let route = Route {
-                source,
-                via,
-                start,
-                target,
-            };
-            put_trans_words(out, c, route)
+            put_trans_words(out, c, asked_route(source, via, start, target))
         }
     }
 }

@@ -5,7 +5,7 @@ ghost use Rattle.table.specs.Records.{no_record};
 ghost use Rattle.design.specs.declared.fault.Fault.TheVariants as fault;
 ghost use Rattle.design.specs.declared.read.Design.{Design};
 ghost use Rattle.design.specs.Designs.{DesignSaid};
-ghost use Rattle.report.specs.Runs.{records as records_of, layouts_of, Matched, RuleTold, Told};
+ghost use Rattle.report.specs.Runs.{records as records_of, layouts_of, EachAxis, Matched, rule_fault, RuleTold, Told};
 
 use crate::facts::put_facts;
 use crate::report::put_report;
@@ -35,7 +35,7 @@ fn check_entries<'a, C: Catalogue>(
     layout: usize,
     entries: Entries,
 ) -> Result<(), Fault<'a>>
-    ensures { MatchResult result (λ _. layout < length (C.layouts c.now) → entries.count ≡ rank (slice_index_or (C.layouts c.now) layout blank)) (λ _. (layout < length (C.layouts c.now) → entries.count ≡ rank (slice_index_or (C.layouts c.now) layout blank)) → ⊥) }
+    ensures { MatchResult result (λ _. EachAxis (C.layouts c.now) layout entries) (λ _. EachAxis (C.layouts c.now) layout entries → ⊥) }
 {
     let Ok(layout) = LayoutRef::new(c, layout) else {
         return Ok(());
@@ -95,7 +95,7 @@ fn collect_records(heap: Global, lines: &[LayoutLine]) -> Result<Vec<LayoutRecor
 /// The fault of a layout that breaks a rule, with its line.
 fn broken_layout<'a>(lines: &[LayoutLine], layout: usize, rule: Rule) -> Fault<'a>
     requires { layout < length lines.now }
-    ensures { result ≡ fault.Layout (get_or lines.now layout (record { line = 0; layout = no_record })).line layout (record { kind = (get_or lines.now layout (record { line = 0; layout = no_record })).layout.kind; rule = rule }) }
+    ensures { result ≡ rule_fault lines.now layout rule }
 {
     let found = lines[layout];
     Fault::Layout {

@@ -69,7 +69,7 @@ fn put_destinations(out: &mut String, to: TranslationTo, list: &[i32]) -> Result
 fn put_block<C: Catalogue>(out: &mut String, block: &Block<C>) -> Result<(), AllocError>
     ensures { OnOk result (string_bytes out.new ≡ string_bytes out.old ++ trans_fact (C.layouts block.now.catalogue.now) block.now.route.source block.now.route.via block.now.route.start block.now.route.target (Ok block.now.translation)) }
 {
-    let translation = block.translation();
+    let translation = block.translation;
     let entries = block.entries(*out.allocator())?;
     let (ranges, list) = entries
         .as_slice()
@@ -96,7 +96,7 @@ fn put_source<C: Catalogue>(out: &mut String, block: &Block<C>) -> Result<(), Al
     ensures { OnOk result (string_bytes out.new ≡ string_bytes out.old ++ (kind_fact block.now.translation.from ++ (codes " ranges " ++ ranges_fact (entries_between (C.layouts block.now.catalogue.now) block.now.translation block.now.route.source block.now.route.via block.now.route.start block.now.route.target)))) }
 {
     let entries = block.entries(*out.allocator())?;
-    put_kind(out, block.translation().from)?;
+    put_kind(out, block.translation.from)?;
     write!(out, " ranges ")?;
     put_ranges(out, entries.as_slice())
 }

@@ -109,7 +109,7 @@ fn put_lists(
 }
 
 fn put_block<C: Catalogue>(out: &mut String, block: &Block<C>) -> Result<(), AllocError> {
-    let translation = block.translation();
+    let translation = block.translation;
     let entries = block.entries(*out.allocator())?;
     let (ranges, list) = entries
         .as_slice()
