@@ -10,6 +10,7 @@ use Rattle.translation.specs.declared.kinds.Translation.{Translation}
 use Rattle.translation.specs.declared.kinds.TranslationTo.{TranslationTo}
 use Rattle.translation.specs.declared.kinds.TranslationTo.TheVariants.{Contiguous, Listed}
 use Rattle.translation.specs.declared.kinds.TranslationFault.{TranslationFault}
+use Rattle.translation.specs.declared.route.Route.{Route}
 use Rattle.translation.specs.Entries.{entries_of}
 use Rattle.translation.specs.Outcome.{translated}
 use Rattle.reader.specs.declared.record.BlockRecord.{BlockRecord}
@@ -92,6 +93,10 @@ block_checked ls m number t call ns =
 
 -- ---- what it adds
 
+-- the route of a call, into a tensor with this layout
+abbrev pub route_into : ℕ → BlockCall → Route
+route_into layout call = record { source = call.source; via = call.via; start = call.start; target = layout }
+
 -- the places of a sparse source, unless they are there
 abbrev pub places_new : LayoutKind → Option ℕ → List ℤ → List ℤ
 places_new Dense at entries = []
@@ -166,7 +171,7 @@ fitted host ls m room call ns t (Ok r) = cond (block_fits ls m room call ns t r)
 abbrev pub block_outcome : (ℕ → List Float → Option Float) → List Layout → Model → Room → ℕ → BlockCall → List Node → Result Passed StageFault
 block_outcome host ls m room ticket call ns =
     cond (block_short m.counts room) (Err stage.Short)
-    (and_then (phased m.counts.phase (incoming.Block ticket))
+    (and_then (phased m.counts.opened (incoming.Block ticket))
     (let t = open_tensor m.counts m.tensors in fitted host ls m room call ns t (block_checked ls m (open_number m.counts) t call ns)))
 
 -- ---- what an accepted block leaves
@@ -199,7 +204,7 @@ module _ (ls : List Layout) (m : Model) (call : BlockCall) (ns : List Node) (p :
   abbrev pub new_block : BlockEntry
   new_block = record {
     tensor = open_number m.counts;
-    route = record { source = call.source; via = call.via; start = call.start; target = target.layout };
+    route = route_into target.layout call;
     places = places_then (get_or ls call.source blank).kind (placed_at m.blocks call.source) m.counts.indices;
     read = new_record;
   }
@@ -217,7 +222,7 @@ module _ (ls : List Layout) (m : Model) (call : BlockCall) (ns : List Node) (p :
   abbrev pub blocked : Model
   blocked = record {
     counts = record {
-      phase = m.counts.phase;
+      opened = m.counts.opened;
       tensors = m.counts.tensors;
       blocks = m.counts.blocks + 1;
       variables = m.counts.variables + one_if call.named;

@@ -1,5 +1,5 @@
 -- What an opening answers and leaves, and a closing.
-use Rattle.std.specs.Prelude.{ℕ, zero, suc, ◌+◌, Bool, cond, ◌&&◌, List, [], ◌∷◌, ◌++◌, replicate, Some, None, Ok, Err, Option, Result, nat_le, slice_index_or}
+use Rattle.std.specs.Prelude.{ℕ, ◌+◌, Bool, cond, ◌&&◌, List, [], ◌∷◌, ◌++◌, replicate, Some, None, Ok, Err, Option, Result, nat_le, slice_index_or}
 use Rattle.std.specs.Float.{float_zero as nought}
 use Rattle.layout.specs.Layouts.{Layout, blank, count}
 use Rattle.translation.specs.Outcome.{known}
@@ -10,7 +10,6 @@ use Rattle.names.specs.Variables.{class_of}
 use Rattle.names.specs.Checks.{and_then}
 use Rattle.records.specs.declared.counts.Counts.{Counts}
 use Rattle.records.specs.declared.counts.Room.{Room}
-use Rattle.records.specs.declared.counts.Phase.TheVariants.{Between, Inside}
 use Rattle.records.specs.declared.record.TensorRecord.{TensorRecord}
 use Rattle.records.specs.Memory.{Model, left, opening_short}
 use Rattle.planning.specs.declared.phase.Incoming.TheVariants.{Opening}
@@ -52,7 +51,7 @@ opened_as ls n room layout (Some class) =
 
 -- the outcome of an opening: refusals 23, 20, 1 and 23, in this order, or the new tensor
 abbrev pub opening : List Layout → Counts → Room → ℕ → ℕ → Result TensorRecord StageFault
-opening ls n room layout class = cond (opening_short n room) (Err Short) (and_then (phased n.phase Opening) (opened_as ls n room layout (class_of class)))
+opening ls n room layout class = cond (opening_short n room) (Err Short) (and_then (phased n.opened Opening) (opened_as ls n room layout (class_of class)))
 
 -- the variable of a tensor
 abbrev pub variable_for : TensorRecord → VariableRecord
@@ -60,7 +59,7 @@ variable_for t = record { layout = Some t.layout; class = t.class; offset = t.of
 
 abbrev pub opened_counts : Counts → TensorRecord → Counts
 opened_counts n t = record {
-  phase = Inside t.variable;
+  opened = Some t.variable;
   tensors = n.tensors + 1;
   blocks = n.blocks;
   variables = n.variables + 1;
@@ -83,7 +82,7 @@ opened m t = record {
 }
 
 abbrev pub closed_counts : Counts → Counts
-closed_counts n = record { phase = Between; tensors = n.tensors; blocks = n.blocks; variables = n.variables; binaries = n.binaries; constants = n.constants; «data» = n.«data»; indices = n.indices }
+closed_counts n = record { opened = None; tensors = n.tensors; blocks = n.blocks; variables = n.variables; binaries = n.binaries; constants = n.constants; «data» = n.«data»; indices = n.indices }
 
 abbrev pub closed : Model → Model
 closed m = record { counts = closed_counts m.counts; tensors = m.tensors; blocks = m.blocks; variables = m.variables; binaries = m.binaries; constants = m.constants; indices = m.indices }

@@ -1,6 +1,7 @@
 //! What an opening comes to.
 ghost use Rattle.std.specs.Prelude.{◌≡◌, true};
 ghost use Rattle.layout.specs.Layouts.{blank, count as count_of};
+ghost use Rattle.names.specs.Variables.{class_of};
 ghost use Rattle.planning.specs.Openings.{constants_for, data_for, offset_for, opening_fits, opened_as, opening as OpeningOf};
 
 use crate::fault::StageFault;
@@ -59,28 +60,24 @@ fn has_room(n: Counts, room: Room, class: Class, places: usize) -> bool
     records & (constants & data)
 }
 
-/// The record of a new tensor of a class.
+/// The record of a new tensor of the class with a number.
 fn open_as<C: Catalogue>(
     c: &C,
     n: Counts,
     room: Room,
     layout: usize,
-    class: Option<Class>,
+    class: u8,
 ) -> Result<TensorRecord, StageFault>
-    ensures { result ≡ opened_as (C.layouts c.now) n room layout class }
+    ensures { result ≡ opened_as (C.layouts c.now) n room layout (class_of class) }
 {
-    let Some(class) = class else {
-        return Err(StageFault::Unknown);
-    };
-    let Ok(shape) = c.shape(layout) else {
-        return Err(StageFault::Unknown);
-    };
-    if !has_room(n, room, class, shape.count) {
+    let class = Class::try_from(class)?;
+    let places = c.shape(layout)?.count;
+    if !has_room(n, room, class, places) {
         return Err(StageFault::Short);
     }
     Ok(TensorRecord {
         layout,
-        places: shape.count,
+        places,
         class,
         offset: offset_of(class, n),
         variable: (n.variables + 2) as u8,
@@ -100,6 +97,6 @@ pub fn plan_opening<C: Catalogue>(
     if is_opening_short(n, room) {
         return Err(StageFault::Short);
     }
-    check_phase(n.phase, Incoming::Opening)?;
-    open_as(c, n, room, layout, Class::try_from(class).ok())
+    check_phase(n.opened, Incoming::Opening)?;
+    open_as(c, n, room, layout, class)
 }

@@ -1,18 +1,11 @@
 //! How much of each table and buffer is in use.
 use expression::node::VariableNumber;
 
-/// Whether a tensor is open; then it is the last one.
-#[derive(Clone, Copy)]
-pub enum Phase {
-    Between,
-    /// The open tensor's variable.
-    Inside(VariableNumber),
-}
-
 /// How much is in use of each table and buffer.
 #[derive(Clone, Copy)]
 pub struct Counts {
-    pub phase: Phase,
+    /// The variable of the open tensor, which is the last one.
+    pub opened: Option<VariableNumber>,
     pub tensors: usize,
     pub blocks: usize,
     pub variables: usize,
