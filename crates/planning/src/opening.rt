@@ -10,7 +10,7 @@ use crate::room::{fits, is_opening_short};
 use layout::catalogue::Catalogue;
 use names::variable::Class;
 use records::counts::{Counts, Room};
-use records::limits;
+use records::limits::LIMITS;
 use records::record::TensorRecord;
 
 /// How many constants a tensor of a class takes.
@@ -38,8 +38,8 @@ fn offset_of(class: Class, n: Counts) -> usize
     ensures { result ≡ offset_for class n }
 {
     match class {
-        Class::Constant => n.constants,
-        Class::Data => n.data,
+        Class::Constant => n.used.constants,
+        Class::Data => n.used.data,
         Class::Unstored => 0,
     }
 }
@@ -48,15 +48,15 @@ fn offset_of(class: Class, n: Counts) -> usize
 fn has_room(n: Counts, room: Room, class: Class, places: usize) -> bool
     ensures { result ≡ opening_fits n room class places }
 {
-    let records = fits(1, limits::TENSORS, room.tensors, n.tensors)
-        & fits(1, limits::VARIABLES, room.variables, n.variables);
+    let records = fits(1, LIMITS.tensors, room.brought.tensors, n.used.tensors)
+        & fits(1, LIMITS.variables, room.brought.variables, n.used.variables);
     let constants = fits(
         constants_taken(class, places),
-        limits::CONSTANTS,
-        room.constants,
-        n.constants,
+        LIMITS.constants,
+        room.brought.constants,
+        n.used.constants,
     );
-    let data = fits(data_taken(class, places), limits::DATA, room.data, n.data);
+    let data = fits(data_taken(class, places), LIMITS.data, room.brought.data, n.used.data);
     records & (constants & data)
 }
 
@@ -80,7 +80,7 @@ fn open_as<C: Catalogue>(
         places,
         class,
         offset: offset_of(class, n),
-        variable: (n.variables + 2) as u8,
+        variable: (n.used.variables + 2) as u8,
     })
 }
 

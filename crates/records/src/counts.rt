@@ -1,11 +1,9 @@
 //! How much of each table and buffer is in use.
 use expression::node::VariableNumber;
 
-/// How much is in use of each table and buffer.
-#[derive(Clone, Copy)]
-pub struct Counts {
-    /// The variable of the open tensor, which is the last one.
-    pub opened: Option<VariableNumber>,
+/// An amount of each table and buffer.
+#[derive(Clone, Copy, PartialEq, Eq)]
+pub struct Amounts {
     pub tensors: usize,
     pub blocks: usize,
     pub variables: usize,
@@ -15,15 +13,16 @@ pub struct Counts {
     pub indices: usize,
 }
 
-/// How much of each table and buffer a call brings.
+/// How much is in use, and the variable of the open tensor, which is the last one.
+#[derive(Clone, Copy)]
+pub struct Counts {
+    pub opened: Option<VariableNumber>,
+    pub used: Amounts,
+}
+
+/// How much a call brings, and how long its scratch is.
 #[derive(Clone, Copy)]
 pub struct Room {
-    pub tensors: usize,
-    pub blocks: usize,
-    pub variables: usize,
-    pub binaries: usize,
-    pub constants: usize,
-    pub data: usize,
-    pub indices: usize,
+    pub brought: Amounts,
     pub scratch: usize,
 }
