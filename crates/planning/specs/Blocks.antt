@@ -10,6 +10,7 @@ use Rattle.translation.specs.declared.kinds.Translation.{Translation}
 use Rattle.translation.specs.declared.kinds.TranslationTo.{TranslationTo}
 use Rattle.translation.specs.declared.kinds.TranslationTo.TheVariants.{Contiguous, Listed}
 use Rattle.translation.specs.declared.kinds.TranslationFault.{TranslationFault}
+use Rattle.translation.specs.declared.route.Route.{Route}
 use Rattle.translation.specs.Entries.{entries_of}
 use Rattle.translation.specs.Outcome.{translated}
 use Rattle.reader.specs.declared.record.BlockRecord.{BlockRecord}
@@ -46,7 +47,7 @@ use Rattle.planning.specs.Phases.{phased}
 -- ---- the open tensor, which is the last one
 
 abbrev pub open_number : Counts → ℕ
-open_number n = n.tensors - 1
+open_number n = n.used.tensors - 1
 
 abbrev pub open_tensor : Counts → List TensorRecord → TensorRecord
 open_tensor n ts = slice_index_or ts (open_number n) no_tensor
@@ -92,6 +93,10 @@ block_checked ls m number t call ns =
 
 -- ---- what it adds
 
+-- the route of a call, into a tensor with this layout
+abbrev pub route_into : ℕ → BlockCall → Route
+route_into layout call = record { source = call.source; via = call.via; start = call.start; target = layout }
+
 -- the places of a sparse source, unless they are there
 abbrev pub places_new : LayoutKind → Option ℕ → List ℤ → List ℤ
 places_new Dense at entries = []
@@ -134,8 +139,8 @@ one_if false = 0
 
 abbrev pub block_fits : List Layout → Model → Room → BlockCall → List Node → TensorRecord → Translation → Bool
 block_fits ls m room call ns t r =
-    ((nat_le 1 (left 256 room.blocks m.counts.blocks) && nat_le (one_if call.named) (left 254 room.variables m.counts.variables))
-    && (nat_le (length (new_keys ls m call ns)) (left 4096 room.binaries m.counts.binaries) && nat_le (length (new_entries ls m call ns t r)) (left 4194304 room.indices m.counts.indices)))
+    ((nat_le 1 (left 256 room.brought.blocks m.counts.used.blocks) && nat_le (one_if call.named) (left 254 room.brought.variables m.counts.used.variables))
+    && (nat_le (length (new_keys ls m call ns)) (left 4096 room.brought.binaries m.counts.used.binaries) && nat_le (length (new_entries ls m call ns t r)) (left 4194304 room.brought.indices m.counts.used.indices)))
     && (not (is_constant t.class) || nat_le (count (slice_index_or ls call.source blank)) room.scratch)
 
 -- ---- its values, in a constant tensor: 11 by place and node
@@ -166,7 +171,7 @@ fitted host ls m room call ns t (Ok r) = cond (block_fits ls m room call ns t r)
 abbrev pub block_outcome : (ℕ → List Float → Option Float) → List Layout → Model → Room → ℕ → BlockCall → List Node → Result Passed StageFault
 block_outcome host ls m room ticket call ns =
     cond (block_short m.counts room) (Err stage.Short)
-    (and_then (phased m.counts.phase (incoming.Block ticket))
+    (and_then (phased m.counts.opened (incoming.Block ticket))
     (let t = open_tensor m.counts m.tensors in fitted host ls m room call ns t (block_checked ls m (open_number m.counts) t call ns)))
 
 -- ---- what an accepted block leaves
@@ -188,7 +193,7 @@ module _ (ls : List Layout) (m : Model) (call : BlockCall) (ns : List Node) (p :
 
   -- where its binary tables begin, and its ranges
   abbrev pub tables_at : ℕ
-  tables_at = m.counts.indices + length (new_places ls m.blocks call.source)
+  tables_at = m.counts.used.indices + length (new_places ls m.blocks call.source)
 
   abbrev pub ranges_at : ℕ
   ranges_at = unwrap_or (option_map (λ r. r.ranges) (sharing m call target)) (tables_at + length (tables ls (new_keys ls m call ns)))
@@ -199,8 +204,8 @@ module _ (ls : List Layout) (m : Model) (call : BlockCall) (ns : List Node) (p :
   abbrev pub new_block : BlockEntry
   new_block = record {
     tensor = open_number m.counts;
-    route = record { source = call.source; via = call.via; start = call.start; target = target.layout };
-    places = places_then (get_or ls call.source blank).kind (placed_at m.blocks call.source) m.counts.indices;
+    route = route_into target.layout call;
+    places = places_then (get_or ls call.source blank).kind (placed_at m.blocks call.source) m.counts.used.indices;
     read = new_record;
   }
 
@@ -217,14 +222,16 @@ module _ (ls : List Layout) (m : Model) (call : BlockCall) (ns : List Node) (p :
   abbrev pub blocked : Model
   blocked = record {
     counts = record {
-      phase = m.counts.phase;
-      tensors = m.counts.tensors;
-      blocks = m.counts.blocks + 1;
-      variables = m.counts.variables + one_if call.named;
-      binaries = m.counts.binaries + length (new_keys ls m call ns);
-      constants = m.counts.constants;
-      «data» = m.counts.«data»;
-      indices = m.counts.indices + length (new_entries ls m call ns target p.translation);
+      opened = m.counts.opened;
+      used = record {
+        tensors = m.counts.used.tensors;
+        blocks = m.counts.used.blocks + 1;
+        variables = m.counts.used.variables + one_if call.named;
+        binaries = m.counts.used.binaries + length (new_keys ls m call ns);
+        constants = m.counts.used.constants;
+        «data» = m.counts.used.«data»;
+        indices = m.counts.used.indices + length (new_entries ls m call ns target p.translation);
+      };
     };
     tensors = m.tensors;
     blocks = m.blocks ++ new_block ∷ [];

@@ -23,6 +23,7 @@ use names::variable::{VariableRecord, is_constant};
 use overlap::clash::first_clash;
 use records::record::{BlockEntry, TensorRecord};
 use translation::kinds::{Translation, TranslationTo};
+use translation::route::Route;
 
 /// At most four block letters, each of a to z, and none twice.
 fn check_letters(letters: Letters) -> Result<(), BlockFault>
@@ -39,26 +40,33 @@ fn check_letters(letters: Letters) -> Result<(), BlockFault>
 fn check_stored(clash: Option<usize>) -> Result<(), BlockFault>
     ensures { result ≡ stored_checked clash }
 {
-    match clash {
-        Some(place) => Err(BlockFault::Stored { place }),
-        None => Ok(()),
-    }
+    clash.map_or(Ok(()), |place| Err(BlockFault::Stored { place }))
 }
 
 /// A named block has its destinations one after another.
 fn check_named(named: bool, to: TranslationTo) -> Result<(), BlockFault>
     ensures { result ≡ named_checked named to }
 {
-    match to {
-        TranslationTo::Contiguous { start: _, end: _ } => Ok(()),
-        TranslationTo::Listed => {
-            if named {
-                Err(BlockFault::Listed)
-            } else {
-                Ok(())
-            }
-        }
+    if named && to == TranslationTo::Listed {
+        Err(BlockFault::Listed)
+    } else {
+        Ok(())
     }
+}
+
+/// The tensor that a block stores into: its number and its record.
+#[derive(Clone, Copy)]
+pub struct Target {
+    pub number: usize,
+    pub tensor: TensorRecord,
+}
+
+/// What the last call left of blocks and variables, and of the index table.
+#[derive(Clone, Copy)]
+pub struct Recorded<'a> {
+    pub blocks: &'a [BlockEntry],
+    pub variables: &'a [VariableRecord],
+    pub indices: &'a [i32],
 }
 
 /// The expression may stand in a block of a tensor.
@@ -86,57 +94,52 @@ fn check_expression<C: Catalogue>(
 }
 
 /// The first via place of an accepted translation whose destination an earlier block of the tensor
-/// has stored at.
+/// with a number has stored at.
 fn find_clash<C: Catalogue>(
     c: &C,
     number: usize,
-    target: TensorRecord,
-    blocks: &[BlockEntry],
-    indices: &[i32],
-    call: BlockCall,
+    recorded: &Recorded,
+    route: Route,
     translation: Translation,
 ) -> Option<usize>
-    requires valid { AllValid (C.layouts c.now) }
-    requires accepted { translated (C.layouts c.now) call.source call.via call.start target.layout ≡ Ok translation }
-    requires lawful { LawfulIn (C.layouts c.now) call.source call.via call.start target.layout translation }
-    requires orderly { AllByRecursion (λ e. Orderly e.read indices.now) blocks.now }
-    ensures { result ≡ first_clash_of blocks.now indices.now number (slice_index_or (C.layouts c.now) call.via blank) call.start (slice_index_or (C.layouts c.now) target.layout blank) }
+    requires accepted { translated (C.layouts c.now) route.source route.via route.start route.target ≡ Ok translation }
+    requires lawful { LawfulIn (C.layouts c.now) route.source route.via route.start route.target translation }
+    requires orderly { AllByRecursion (λ e. Orderly e.read recorded.now.indices.now) recorded.now.blocks.now }
+    ensures { result ≡ first_clash_of recorded.now.blocks.now recorded.now.indices.now number (slice_index_or (C.layouts c.now) route.via blank) route.start (slice_index_or (C.layouts c.now) route.target blank) }
 {
-    first_clash(
-        c,
-        blocks,
-        indices,
-        number,
-        translation,
-        call.via,
-        call.start,
-        target.layout,
-    )
+    match route.in_catalogue(c) {
+        Ok(block) => first_clash(
+            recorded.blocks,
+            recorded.indices,
+            number,
+            translation,
+            &block,
+        ),
+        Err(_) => unreachable(),
+    }
 }
 
-/// The translation of a block of the tensor with a number and a record, where nothing refuses the
-/// block by itself. The blocks so far are accepted ones, with their entries in the index table.
+/// The translation of a block of a tensor, where nothing refuses the block by itself. The blocks so
+/// far are accepted ones, with their entries in the index table.
 pub fn check_block<C: Catalogue>(
     c: &C,
-    number: usize,
-    target: TensorRecord,
-    blocks: &[BlockEntry],
-    variables: &[VariableRecord],
-    indices: &[i32],
+    target: Target,
+    recorded: &Recorded,
     call: BlockCall,
     nodes: &[Node],
 ) -> Result<Translation, BlockFault>
-    requires { AllByRecursion (λ e. Orderly e.read indices.now) blocks.now }
-    ensures is { (n : Counts) (ts : List TensorRecord) (ks : List BinaryRecord) (cs : List Float) → result ≡ block_checked (C.layouts c.now) (holding n ts blocks.now variables.now ks cs indices.now) number target call nodes.now }
-    ensures lawful { IfOk result (LawfulIn (C.layouts c.now) call.source call.via call.start target.layout) }
+    requires { AllByRecursion (λ e. Orderly e.read recorded.now.indices.now) recorded.now.blocks.now }
+    ensures is { (n : Counts) (ts : List TensorRecord) (ks : List BinaryRecord) (cs : List Float) → result ≡ block_checked (C.layouts c.now) (holding n ts recorded.now.blocks.now recorded.now.variables.now ks cs recorded.now.indices.now) target.number target.tensor call nodes.now }
+    ensures lawful { IfOk result (LawfulIn (C.layouts c.now) call.source call.via call.start target.tensor.layout) }
     ensures valid { AllValid (C.layouts c.now) }
 {
     // The count says that every layout is valid.
     let _ = c.count();
     check_letters(call.letters)?;
-    let translation = Translation::new(c, call.source, call.via, call.start, target.layout)?;
-    check_stored(find_clash(c, number, target, blocks, indices, call, translation))?;
+    let route = call.route(target.tensor.layout);
+    let translation = Translation::new(c, route)?;
+    check_stored(find_clash(c, target.number, recorded, route, translation))?;
     check_named(call.named, translation.to)?;
-    check_expression(c, variables, target, call, nodes)?;
+    check_expression(c, recorded.variables, target.tensor, call, nodes)?;
     Ok(translation)
 }

@@ -1,12 +1,12 @@
 //! Refusals of the stage's calls.
 ghost use Rattle.std.specs.Prelude.{◌≡◌};
-ghost use Rattle.layout.specs.declared.fault.Layer.TheVariants.{Stage};
 ghost use Rattle.planning.specs.Faults.{block_reported, reported};
 ghost use Rattle.planning.specs.declared.fault.BlockFault.TheVariants.{Translation as OfTranslation, Expression as OfExpression};
-ghost use Rattle.planning.specs.declared.fault.StageFault.TheVariants.{Block as OfBlock};
+ghost use Rattle.planning.specs.declared.fault.StageFault.TheVariants.{Block as OfBlock, Unknown};
 
 use expression::fault::ExpressionFault;
-use layout::fault::{Layer, Report};
+use layout::fault::{Layer, LayoutFault, Report};
+use names::variable::UnknownClass;
 use translation::kinds::TranslationFault;
 
 /// Why a block is refused.
@@ -37,26 +37,16 @@ pub enum StageFault {
     Block(BlockFault),
 }
 
-fn by_stage(number: u8, place: usize) -> Report
-    ensures { result ≡ record { number = number; layer = Stage; place = place } }
-{
-    Report {
-        number,
-        layer: Layer::Stage,
-        place,
-    }
-}
-
 impl BlockFault {
     /// The number, layer and place of the refusal.
     pub fn report(&self) -> Report
         ensures { result ≡ block_reported self.now }
     {
         match *self {
-            BlockFault::Letters => by_stage(1, 0),
+            BlockFault::Letters => Report::new(1, Layer::Stage, 0),
             BlockFault::Translation(fault) => fault.report(),
-            BlockFault::Stored { place } => by_stage(22, place),
-            BlockFault::Listed => by_stage(8, 0),
+            BlockFault::Stored { place } => Report::new(22, Layer::Stage, place),
+            BlockFault::Listed => Report::new(8, Layer::Stage, 0),
             BlockFault::Expression(fault) => fault.report(),
         }
     }
@@ -68,9 +58,9 @@ impl StageFault {
         ensures { result ≡ reported self.now }
     {
         match *self {
-            StageFault::Phase => by_stage(20, 0),
-            StageFault::Unknown => by_stage(1, 0),
-            StageFault::Short => by_stage(23, 0),
+            StageFault::Phase => Report::new(20, Layer::Stage, 0),
+            StageFault::Unknown => Report::new(1, Layer::Stage, 0),
+            StageFault::Short => Report::new(23, Layer::Stage, 0),
             StageFault::Block(fault) => fault.report(),
         }
     }
@@ -97,5 +87,21 @@ impl From<BlockFault> for StageFault {
 
     fn from(fault: BlockFault) -> StageFault {
         StageFault::Block(fault)
+    }
+}
+
+impl From<LayoutFault> for StageFault {
+    ghost from_gives = { λ _ r. r ≡ Unknown };
+
+    fn from(_fault: LayoutFault) -> StageFault {
+        StageFault::Unknown
+    }
+}
+
+impl From<UnknownClass> for StageFault {
+    ghost from_gives = { λ _ r. r ≡ Unknown };
+
+    fn from(_fault: UnknownClass) -> StageFault {
+        StageFault::Unknown
     }
 }

@@ -1,6 +1,7 @@
 //! What an opening comes to.
 ghost use Rattle.std.specs.Prelude.{◌≡◌, true};
 ghost use Rattle.layout.specs.Layouts.{blank, count as count_of};
+ghost use Rattle.names.specs.Variables.{class_of};
 ghost use Rattle.planning.specs.Openings.{constants_for, data_for, offset_for, opening_fits, opened_as, opening as OpeningOf};
 
 use crate::fault::StageFault;
@@ -9,7 +10,7 @@ use crate::room::{fits, is_opening_short};
 use layout::catalogue::Catalogue;
 use names::variable::Class;
 use records::counts::{Counts, Room};
-use records::limits;
+use records::limits::LIMITS;
 use records::record::TensorRecord;
 
 /// How many constants a tensor of a class takes.
@@ -37,8 +38,8 @@ fn offset_of(class: Class, n: Counts) -> usize
     ensures { result ≡ offset_for class n }
 {
     match class {
-        Class::Constant => n.constants,
-        Class::Data => n.data,
+        Class::Constant => n.used.constants,
+        Class::Data => n.used.data,
         Class::Unstored => 0,
     }
 }
@@ -47,43 +48,39 @@ fn offset_of(class: Class, n: Counts) -> usize
 fn has_room(n: Counts, room: Room, class: Class, places: usize) -> bool
     ensures { result ≡ opening_fits n room class places }
 {
-    let records = fits(1, limits::TENSORS, room.tensors, n.tensors)
-        & fits(1, limits::VARIABLES, room.variables, n.variables);
+    let records = fits(1, LIMITS.tensors, room.brought.tensors, n.used.tensors)
+        & fits(1, LIMITS.variables, room.brought.variables, n.used.variables);
     let constants = fits(
         constants_taken(class, places),
-        limits::CONSTANTS,
-        room.constants,
-        n.constants,
+        LIMITS.constants,
+        room.brought.constants,
+        n.used.constants,
     );
-    let data = fits(data_taken(class, places), limits::DATA, room.data, n.data);
+    let data = fits(data_taken(class, places), LIMITS.data, room.brought.data, n.used.data);
     records & (constants & data)
 }
 
-/// The record of a new tensor of a class.
+/// The record of a new tensor of the class with a number.
 fn open_as<C: Catalogue>(
     c: &C,
     n: Counts,
     room: Room,
     layout: usize,
-    class: Option<Class>,
+    class: u8,
 ) -> Result<TensorRecord, StageFault>
-    ensures { result ≡ opened_as (C.layouts c.now) n room layout class }
+    ensures { result ≡ opened_as (C.layouts c.now) n room layout (class_of class) }
 {
-    let Some(class) = class else {
-        return Err(StageFault::Unknown);
-    };
-    let Ok(shape) = c.shape(layout) else {
-        return Err(StageFault::Unknown);
-    };
-    if !has_room(n, room, class, shape.count) {
+    let class = Class::try_from(class)?;
+    let places = c.shape(layout)?.count;
+    if !has_room(n, room, class, places) {
         return Err(StageFault::Short);
     }
     Ok(TensorRecord {
         layout,
-        places: shape.count,
+        places,
         class,
         offset: offset_of(class, n),
-        variable: (n.variables + 2) as u8,
+        variable: (n.used.variables + 2) as u8,
     })
 }
 
@@ -100,6 +97,6 @@ pub fn plan_opening<C: Catalogue>(
     if is_opening_short(n, room) {
         return Err(StageFault::Short);
     }
-    check_phase(n.phase, Incoming::Opening)?;
-    open_as(c, n, room, layout, Class::try_from(class).ok())
+    check_phase(n.opened, Incoming::Opening)?;
+    open_as(c, n, room, layout, class)
 }

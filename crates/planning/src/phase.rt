@@ -4,7 +4,6 @@ ghost use Rattle.planning.specs.Phases.{phased};
 
 use crate::fault::StageFault;
 use expression::node::VariableNumber;
-use records::counts::Phase;
 
 /// A call that may come or not. A ticket goes by its variable's number.
 #[derive(Clone, Copy)]
@@ -14,15 +13,15 @@ pub enum Incoming {
     Closing(VariableNumber),
 }
 
-/// Whether a call may come: an opening between tensors, a block or a closing inside the tensor of
-/// its ticket.
-pub fn check_phase(phase: Phase, incoming: Incoming) -> Result<(), StageFault>
-    ensures { result ≡ phased phase incoming }
+/// Whether a call may come: an opening while no tensor is open, a block or a closing while that of
+/// its ticket is.
+pub fn check_phase(opened: Option<VariableNumber>, incoming: Incoming) -> Result<(), StageFault>
+    ensures { result ≡ phased opened incoming }
 {
-    match (phase, incoming) {
-        (Phase::Between, Incoming::Opening) => Ok(()),
-        (Phase::Inside(open), Incoming::Block(ticket)) if ticket == open => Ok(()),
-        (Phase::Inside(open), Incoming::Closing(ticket)) if ticket == open => Ok(()),
+    match (opened, incoming) {
+        (None, Incoming::Opening) => Ok(()),
+        (Some(open), Incoming::Block(ticket)) if ticket == open => Ok(()),
+        (Some(open), Incoming::Closing(ticket)) if ticket == open => Ok(()),
         _ => Err(StageFault::Phase),
     }
 }

@@ -32,12 +32,12 @@ pub record Buffers : Type 0 where
 abbrev pub in_use : Counts → Buffers → Model
 in_use n b = record {
   counts = n;
-  tensors = take n.tensors b.tensors;
-  blocks = take n.blocks b.blocks;
-  variables = take n.variables b.variables;
-  binaries = take n.binaries b.binaries;
-  constants = take n.constants b.constants;
-  indices = take n.indices b.indices;
+  tensors = take n.used.tensors b.tensors;
+  blocks = take n.used.blocks b.blocks;
+  variables = take n.used.variables b.variables;
+  binaries = take n.used.binaries b.binaries;
+  constants = take n.used.constants b.constants;
+  indices = take n.used.indices b.indices;
 }
 
 -- what is left of a table or buffer of which so much is brought, used up to a limit
@@ -46,13 +46,13 @@ left limit brought used = min limit brought - used
 
 -- some part that an opening brings is shorter than what is in use of it: constants, data, tensors or variables
 abbrev pub opening_short : Counts → Room → Bool
-opening_short n room = (nat_lt room.constants n.constants || nat_lt room.«data» n.«data») || (nat_lt room.tensors n.tensors || nat_lt room.variables n.variables)
+opening_short n room = (nat_lt room.brought.constants n.used.constants || nat_lt room.brought.«data» n.used.«data») || (nat_lt room.brought.tensors n.used.tensors || nat_lt room.brought.variables n.used.variables)
 
 -- some part that a block brings is: constants, indices, tensors, blocks, variables or binary tables
 abbrev pub block_short : Counts → Room → Bool
 block_short n room =
-    ((nat_lt room.constants n.constants || nat_lt room.indices n.indices) || (nat_lt room.tensors n.tensors || nat_lt room.blocks n.blocks))
-    || (nat_lt room.variables n.variables || nat_lt room.binaries n.binaries)
+    ((nat_lt room.brought.constants n.used.constants || nat_lt room.brought.indices n.used.indices) || (nat_lt room.brought.tensors n.used.tensors || nat_lt room.brought.blocks n.used.blocks))
+    || (nat_lt room.brought.variables n.used.variables || nat_lt room.brought.binaries n.used.binaries)
 
 abbrev pub no_tensor : TensorRecord
 no_tensor = record { layout = 0; places = 0; class = Unstored; offset = 0; variable = 0 }

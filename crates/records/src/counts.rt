@@ -1,36 +1,28 @@
 //! How much of each table and buffer is in use.
 use expression::node::VariableNumber;
 
-/// Whether a tensor is open; then it is the last one.
-#[derive(Clone, Copy)]
-pub enum Phase {
-    Between,
-    /// The open tensor's variable.
-    Inside(VariableNumber),
+/// An amount of each table and buffer.
+#[derive(Clone, Copy, PartialEq, Eq)]
+pub struct Amounts {
+    pub tensors: usize,
+    pub blocks: usize,
+    pub variables: usize,
+    pub binaries: usize,
+    pub constants: usize,
+    pub data: usize,
+    pub indices: usize,
 }
 
-/// How much is in use of each table and buffer.
+/// How much is in use, and the variable of the open tensor, which is the last one.
 #[derive(Clone, Copy)]
 pub struct Counts {
-    pub phase: Phase,
-    pub tensors: usize,
-    pub blocks: usize,
-    pub variables: usize,
-    pub binaries: usize,
-    pub constants: usize,
-    pub data: usize,
-    pub indices: usize,
+    pub opened: Option<VariableNumber>,
+    pub used: Amounts,
 }
 
-/// How much of each table and buffer a call brings.
+/// How much a call brings, and how long its scratch is.
 #[derive(Clone, Copy)]
 pub struct Room {
-    pub tensors: usize,
-    pub blocks: usize,
-    pub variables: usize,
-    pub binaries: usize,
-    pub constants: usize,
-    pub data: usize,
-    pub indices: usize,
+    pub brought: Amounts,
     pub scratch: usize,
 }
