@@ -1,16 +1,15 @@
 -- The tables that a block adds, as they are gathered.
-use Rattle.std.proofs.Common.{◌≡◌, ℕ, ◌+◌, ◌<◌, ◌≤◌, Bool, true, false, ◌||◌, List, [], ◌∷◌, ◌++◌, map, length, get_or, drop, Option, sym, refl, ap, ◌∙◌, append_assoc, append-nil}
+use Rattle.std.proofs.Common.{◌≡◌, ℕ, ◌+◌, ◌<◌, ◌≤◌, ◌||◌, List, [], ◌∷◌, ◌++◌, map, length, get_or, drop, Option, sym, refl, ap, ◌∙◌, append_assoc, append-nil}
+use Rattle.std.specs.List.{list_any}
 use Rattle.std.proofs.lemmas.List.{at_drop_more, at_drop_all}
-use Rattle.records.specs.declared.record.TableKey.{TableKey}
-use Rattle.entries.specs.Fresh.{same_key, has_key, added, fresh}
+use Rattle.names.specs.declared.binary_table.TableKey.{TableKey}
+use Rattle.records.specs.declared.record.BinaryRecord.{BinaryRecord}
+use Rattle.entries.specs.Fresh.{same_key, has_key, keys_of, added, fresh}
 
-or_assoc : (a b c : Bool) → ((a || b) || c) ≡ (a || (b || c))
-or_assoc true b c = refl
-or_assoc false b c = refl
-
-pub has_key_append : (k : TableKey) (xs ys : List TableKey) → has_key k (xs ++ ys) ≡ (has_key k xs || has_key k ys)
-has_key_append k [] ys = refl
-has_key_append k (x ∷ xs) ys = ap (λ b. same_key k x || b) (has_key_append k xs ys) ∙ sym (or_assoc (same_key k x) (has_key k xs) (has_key k ys))
+-- a test of the records' keys
+pub has_key_of : (k : TableKey) (rs : List BinaryRecord) → list_any (λ (r : BinaryRecord). same_key r.key k) rs ≡ has_key k (keys_of rs)
+has_key_of k [] = refl
+has_key_of k (r ∷ rs) = ap (λ b. same_key r.key k || b) (has_key_of k rs)
 
 -- one node more: what was listed, and what it adds
 module _ {X : Type 0} (f : X → Option TableKey) (known : List TableKey) (ns : List X) where

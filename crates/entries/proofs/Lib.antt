@@ -1,4 +1,3 @@
 pub mod Sameness
-pub mod Scanning
 pub mod Freshness
 pub mod Writing

@@ -1,66 +1,54 @@
 -- The tests of equal layouts decide.
-use Rattle.std.proofs.Common.{◌≡◌, ℕ, Bool, true, false, List, [], ◌∷◌, Decides, sym, refl, ap, ◌∙◌}
-use Rattle.std.proofs.lemmas.Slice.Eq.{bytes_eq-Decides}
-use Rattle.std.proofs.lemmas.Bool.{and_parts, and_from, false≢true}
+use Rattle.std.proofs.Common.{◌≡◌, ℕ, ◌<◌, Bool, true, false, List, length, get_or, Ok, Err, Result, Decides, sym, refl, ap, ◌∙◌}
+use Rattle.std.proofs.lemmas.Bool.Decides.{Decides-eqb, Decides-and}
+use Rattle.std.proofs.lemmas.Slice.Eq.{slice_eq-Decides}
+use Rattle.std.specs.Result.{result_unwrap_or}
+use Rattle.layout.specs.declared.fault.LayoutFault.{LayoutFault}
 use Rattle.layout.specs.declared.kind.LayoutKind.{LayoutKind}
 use Rattle.layout.specs.declared.kind.LayoutKind.TheVariants.{Dense, Diagonal, Sparse}
+use Rattle.layout.specs.Words.{kind_word}
 use Rattle.layout.specs.Places.{Place, same}
-use Rattle.layout.specs.Layouts.{Layout}
+use Rattle.layout.specs.Layouts.{Layout, blank}
 use Rattle.layout.proofs.Finding.{same_true, same_self}
-use Rattle.names.specs.Tables.{NoTable}
-use Rattle.entries.specs.Needed.{same_kind, same_places, same_layout, own_number}
+use Rattle.names.specs.Tables.{NoTable, NoTableAsked, identity_from}
+use Rattle.entries.specs.Needed.{same_layout, own_number}
 
-kind_same : (k l : LayoutKind) → same_kind k l ≡ true → k ≡ l
-kind_same Dense Dense h = refl
-kind_same Dense Diagonal h = absurd (false≢true h)
-kind_same Dense Sparse h = absurd (false≢true h)
-kind_same Diagonal Dense h = absurd (false≢true h)
-kind_same Diagonal Diagonal h = refl
-kind_same Diagonal Sparse h = absurd (false≢true h)
-kind_same Sparse Dense h = absurd (false≢true h)
-kind_same Sparse Diagonal h = absurd (false≢true h)
-kind_same Sparse Sparse h = refl
+words_tell : (k l : LayoutKind) → kind_word k ≡ kind_word l → k ≡ l
+words_tell Dense Dense e = refl
+words_tell Dense Diagonal e = cc
+words_tell Dense Sparse e = cc
+words_tell Diagonal Dense e = cc
+words_tell Diagonal Diagonal e = refl
+words_tell Diagonal Sparse e = cc
+words_tell Sparse Dense e = cc
+words_tell Sparse Diagonal e = cc
+words_tell Sparse Sparse e = refl
 
-kind_self : (k : LayoutKind) → same_kind k k ≡ true
-kind_self Dense = refl
-kind_self Diagonal = refl
-kind_self Sparse = refl
+place_decides : (p q : Place) → Decides (same p q) (p ≡ q)
+place_decides p q = (same_true p q, λ e. ap (same p) (sym e) ∙ same_self p)
 
-places_same : (ps qs : List Place) → same_places ps qs ≡ true → ps ≡ qs
-places_same [] [] h = refl
-places_same [] (q ∷ qs) h = absurd (false≢true h)
-places_same (p ∷ ps) [] h = absurd (false≢true h)
-places_same (p ∷ ps) (q ∷ qs) h =
-    let a = and_parts (same p q) (same_places ps qs) h in
-    let e = same_true p q a.0 in
-    let f = places_same ps qs a.1 in
-    cc
-
-places_self : (ps : List Place) → same_places ps ps ≡ true
-places_self [] = refl
-places_self (p ∷ ps) = and_from (same p p) (same_places ps ps) (same_self p) (places_self ps)
-
-layout_same : (l m : Layout) → same_layout l m ≡ true → l ≡ m
-layout_same l m h =
-    let a = and_parts _ _ h in
-    let b = and_parts _ _ a.1 in
-    let k = kind_same l.kind m.kind a.0 in
-    let s = (bytes_eq-Decides l.shape m.shape).0 b.0 in
-    let p = places_same l.places m.places b.1 in
+same_parts : (l m : Layout) → l.kind ≡ m.kind → l.shape ≡ m.shape → l.places ≡ m.places → l ≡ m
+same_parts l m k s p =
     ap (λ x. record { kind = x; shape = l.shape; places = l.places }) k ∙ ap (λ x. record { kind = m.kind; shape = x; places = l.places }) s
     ∙ ap (λ x. record { kind = m.kind; shape = m.shape; places = x }) p
 
-layout_self : (l m : Layout) → l ≡ m → same_layout l m ≡ true
-layout_self l m e = ap (same_layout l) (sym e) ∙ and_from _ _ (kind_self l.kind) (and_from _ _ ((bytes_eq-Decides l.shape l.shape).1 refl) (places_self l.places))
+layout_decides : (l m : Layout) → Decides (same_layout l m) (l ≡ m)
+layout_decides l m =
+    let d = Decides-and _ _ (slice_eq-Decides Decides-eqb (kind_word l.kind) (kind_word m.kind) _ refl) (Decides-and _ _ (slice_eq-Decides Decides-eqb l.shape m.shape _ refl) (slice_eq-Decides place_decides l.places m.places _ refl)) in (
+      λ h. let p = d.0 h in same_parts l m (words_tell l.kind m.kind p.0) p.1.0 p.1.1,
+      λ e. d.1 (ap (λ (x : Layout). kind_word x.kind) e, (ap (λ (x : Layout). x.shape) e, ap (λ (x : Layout). x.places) e)),
+    )
 
 -- two tests that decide one fact are equal
-pub same_test : (a b : Bool) (P : Type 0) → Decides a P → (b ≡ true → P) → (P → b ≡ true) → a ≡ b
-same_test true b P d f g = sym (g (d.0 refl))
-same_test false true P d f g = d.1 (f refl)
-same_test false false P d f g = refl
+same_test : (a b : Bool) (P : Type 0) → Decides a P → Decides b P → a ≡ b
+same_test true b P d f = sym (f.1 (d.0 refl))
+same_test false true P d f = d.1 (f.0 refl)
+same_test false false P d f = refl
 
-pub own_decided : (l s : Layout) (slots : List ℕ) (t : Bool) → Decides t (NoTable l s slots) → t ≡ own_number l s slots
-own_decided l s slots t d =
-    same_test t (own_number l s slots) (NoTable l s slots) d
-    (λ h. let a = and_parts _ _ h in (layout_same l s a.0, a.1))
-    (λ n. and_from _ _ (layout_self l s n.0) n.1)
+own_decided : (l s : Layout) (slots : List ℕ) (t : Bool) → Decides t (NoTable l s slots) → t ≡ own_number l s slots
+own_decided l s slots t d = same_test t (own_number l s slots) (NoTable l s slots) d (Decides-and (same_layout l s) (identity_from 0 slots) (layout_decides l s) (λ h. h, λ h. h))
+
+-- of two layouts that there are
+pub own_asked : (ls : List Layout) (l s : ℕ) (slots : List ℕ) (r : Result Bool LayoutFault) → l < length ls → s < length ls → NoTableAsked ls l s slots r → result_unwrap_or r false ≡ own_number (get_or ls l blank) (get_or ls s blank) slots
+own_asked ls l s slots (Ok t) hl hs h = own_decided (get_or ls l blank) (get_or ls s blank) slots t h.2
+own_asked ls l s slots (Err f) hl hs h = absurd (h.1 hl hs)

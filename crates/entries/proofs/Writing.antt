@@ -1,10 +1,11 @@
 -- Entries and records as they are appended.
-use Rattle.std.proofs.Common.{◌≡◌, ℕ, zero, suc, ◌+◌, ◌<◌, ◌≤◌, cond, ltb, leb, List, [], ◌∷◌, ◌++◌, length, get_or, take, drop, set, ℤ, Ok, Err, Result, sym, refl, ap, ◌∙◌, subst, append_assoc, append-nil, add-one, arith, length-append}
+use Rattle.std.proofs.Common.{◌≡◌, ℕ, suc, ◌+◌, ◌<◌, ◌≤◌, cond, ltb, leb, List, [], ◌∷◌, ◌++◌, length, get_or, take, drop, set, ℤ, Ok, Err, Result, sym, refl, ap, ◌∙◌, subst, append-nil, add-one, arith, length-append}
 use lib.ListN.{length-map}
 use Rattle.std.specs.List.{flat_map}
 use lib.Seq.{paste}
 use Rattle.std.proofs.lemmas.List.Edits.{paste_all, paste-paste, length-paste}
-use Rattle.std.proofs.lemmas.List.{set_split, take_more, take-take, length-take-le}
+use Rattle.std.proofs.lemmas.Grind.{flat_map-append}
+use Rattle.std.proofs.lemmas.List.{set_split, take_more, length-take-le}
 use Rattle.std.proofs.lemmas.Bool.{lt-ltb, le-leb, and_from}
 use Rattle.layout.specs.Layouts.{Layout, blank, count}
 use Rattle.layout.specs.Answers.{index_of}
@@ -13,7 +14,7 @@ use Rattle.names.specs.declared.fault.NamesFault.{NamesFault}
 use Rattle.names.specs.declared.fault.NamesFault.TheVariants.{Layout as OfLayout, NoRoom}
 use Rattle.names.specs.Reading.{slots_of, table_element}
 use Rattle.names.specs.Tables.{entry_of, table_asked, PutFrom}
-use Rattle.records.specs.declared.record.TableKey.{TableKey}
+use Rattle.names.specs.declared.binary_table.TableKey.{TableKey}
 use Rattle.records.specs.declared.record.BinaryRecord.{BinaryRecord}
 use Rattle.records.specs.Written.{written}
 use Rattle.entries.specs.Fresh.{no_key, table_of, tables, records_from}
@@ -40,17 +41,6 @@ module _ (ls : List Layout) (k : TableKey) (at : ℕ) (before after : List ℤ) 
 
   pub put_written : after ≡ written before at (table_of ls k)
   put_written = put.1 ∙ sym (paste_all before at (table_of ls k) (length (table_of ls k)) refl)
-
--- the front of joined lists is no longer than all
-pub joined_front : {X A : Type 0} (f : X → List A) (xs : List X) (j : ℕ) → length (flat_map f (take j xs)) ≤ length (flat_map f xs)
-joined_front f [] zero = omega arith
-joined_front f [] (suc j) = omega arith
-joined_front f (x ∷ xs) zero = omega arith
-joined_front f (x ∷ xs) (suc j) = omega (arith, joined_front f xs j, length-append (f x) (flat_map f (take j xs)), length-append (f x) (flat_map f xs))
-
-pub joined_push : {X A : Type 0} (f : X → List A) (xs : List X) (x : X) → flat_map f (xs ++ x ∷ []) ≡ flat_map f xs ++ f x
-joined_push f [] x = append-nil (f x)
-joined_push f (y ∷ ys) x = ap (λ l. f y ++ l) (joined_push f ys x) ∙ sym (append_assoc (f y) (flat_map f ys) (f x))
 
 -- one part more, from where the last ended
 pub written_more : {X : Type 0} (d e xs ys : List X) (at end : ℕ) → at ≤ length d → end ≡ at + length xs → e ≡ written d at xs → written e end ys ≡ written d at (xs ++ ys)
@@ -84,11 +74,8 @@ module _ {X A : Type 0} (f : X → List A) (xs : List X) (z : X) (at i : ℕ) (h
   abbrev before : List A
   before = flat_map f (take i xs)
 
-  pub parts_more : flat_map f (take (i + 1) xs) ≡ before ++ last
-  parts_more = ap (flat_map f) (take_more xs i z h) ∙ joined_push f (take i xs) (get_or xs i z)
-
-  pub part_room : (end n : ℕ) → end ≡ at + length before → at + length (flat_map f xs) ≤ n → end + length last ≤ n
-  part_room end n e r = omega (arith, joined_front f xs (i + 1), ap length parts_more, length-append before last)
+  parts_more : flat_map f (take (i + 1) xs) ≡ before ++ last
+  parts_more = ap (flat_map f) (take_more xs i z h) ∙ flat_map-append f (take i xs) (get_or xs i z ∷ []) ∙ ap (λ l. before ++ l) (append-nil last)
 
   pub end_more : (end end' : ℕ) → end ≡ at + length before → end' ≡ end + length last → end' ≡ at + length (flat_map f (take (i + 1) xs))
   end_more end end' e g = omega (arith, ap length parts_more, length-append before last)
@@ -115,9 +102,3 @@ module _ (ls : List Layout) (keys : List TableKey) (at i : ℕ) (h : i < length 
       en ∙ set_written c (number + i) x (omega arith) ∙ written_more b c rs (x ∷ []) number (number + i) (omega arith) (omega arith) ec
       ∙ ap (λ z. written b number (rs ++ z ∷ [])) xy
       ∙ ap (written b number) (sym (ap (records_from ls at) (take_more keys i no_key h) ∙ records_push ls at front key))
-
--- the first n of a list, written as they are
-pub pasted_front : {X : Type 0} (d xs : List X) (at n : ℕ) → n ≤ length xs → paste d at xs n ≡ written d at (take n xs)
-pasted_front d xs at n h =
-    let l = length-take-le n xs h in
-    ap (λ m. take at d ++ m ++ drop (at + n) d) (sym (take-take n n xs (omega arith))) ∙ ap (λ m. paste d at (take n xs) m) (sym l)

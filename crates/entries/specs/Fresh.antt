@@ -1,19 +1,18 @@
 -- The binary tables that a block adds: those that its names need, in node order, each once, and none that there is already.
-use Rattle.std.specs.Prelude.{ℕ, ◌+◌, Bool, false, cond, ◌&&◌, ◌||◌, List, [], ◌∷◌, ◌++◌, map, length, ℤ, Some, None, Option, ◌==◌, slice_index_or}
-use Rattle.std.specs.List.{flat_map}
-use Rattle.std.specs.Str.{bytes_eq}
+use Rattle.std.specs.Prelude.{ℕ, ◌+◌, Bool, cond, ◌&&◌, List, [], ◌∷◌, ◌++◌, map, length, ℤ, Some, None, Option, ◌==◌, nat_eq, slice_index_or}
+use Rattle.std.specs.Cmp.Lexicographic.{pointwise}
+use Rattle.std.specs.List.{flat_map, list_any}
 use Rattle.layout.specs.Layouts.{Layout, blank}
 use Rattle.names.specs.Reading.{slots_of}
 use Rattle.names.specs.Tables.{binary_table}
-use Rattle.records.specs.declared.record.TableKey.{TableKey}
+use Rattle.names.specs.declared.binary_table.TableKey.{TableKey}
 use Rattle.records.specs.declared.record.BinaryRecord.{BinaryRecord}
 
 abbrev pub same_key : TableKey → TableKey → Bool
-same_key k l = (k.layout == l.layout && k.source == l.source) && bytes_eq (slots_of k.permutation) (slots_of l.permutation)
+same_key k l = k.layout == l.layout && (k.source == l.source && pointwise nat_eq (slots_of k.permutation) (slots_of l.permutation))
 
 abbrev pub has_key : TableKey → List TableKey → Bool
-has_key k [] = false
-has_key k (l ∷ ls) = same_key k l || has_key k ls
+has_key k = list_any (λ l. same_key l k)
 
 -- the keys of some records
 abbrev pub keys_of : List BinaryRecord → List TableKey

@@ -1,9 +1,10 @@
 -- Which binary tables the names of a block need.
-use Rattle.std.specs.Prelude.{ℕ, Bool, true, false, ◌&&◌, List, [], ◌∷◌, get_or, Some, None, Option, slice_index_or}
-use Rattle.std.specs.Str.{bytes_eq}
+use Rattle.std.specs.Prelude.{ℕ, Bool, true, false, ◌&&◌, List, nat_eq, get_or, Some, None, Option, slice_index_or}
+use Rattle.std.specs.Cmp.Lexicographic.{pointwise}
 use Rattle.layout.specs.declared.kind.LayoutKind.{LayoutKind}
 use Rattle.layout.specs.declared.kind.LayoutKind.TheVariants.{Dense, Diagonal, Sparse}
-use Rattle.layout.specs.Places.{Place, same}
+use Rattle.layout.specs.Words.{kind_word}
+use Rattle.layout.specs.Places.{same}
 use Rattle.layout.specs.Layouts.{Layout, blank, rank}
 use Rattle.expression.specs.declared.node.Node.{Node}
 use Rattle.expression.specs.declared.node.Node.TheVariants.{Number, Name, Binary, Unary, Call}
@@ -12,29 +13,16 @@ use Rattle.names.specs.declared.variable.VariableRecord.{VariableRecord}
 use Rattle.names.specs.Reading.{packed, permutation}
 use Rattle.names.specs.Tables.{identity_from}
 use Rattle.names.specs.Variables.{described}
-use Rattle.records.specs.declared.record.TableKey.{TableKey}
+use Rattle.names.specs.declared.binary_table.TableKey.{TableKey}
 
 -- ---- layouts that are equal
 
+-- kinds are told apart by their words
 abbrev pub same_kind : LayoutKind → LayoutKind → Bool
-same_kind Dense Dense = true
-same_kind Dense Diagonal = false
-same_kind Dense Sparse = false
-same_kind Diagonal Dense = false
-same_kind Diagonal Diagonal = true
-same_kind Diagonal Sparse = false
-same_kind Sparse Dense = false
-same_kind Sparse Diagonal = false
-same_kind Sparse Sparse = true
-
-abbrev pub same_places : List Place → List Place → Bool
-same_places [] [] = true
-same_places [] (q ∷ qs) = false
-same_places (p ∷ ps) [] = false
-same_places (p ∷ ps) (q ∷ qs) = same p q && same_places ps qs
+same_kind k l = pointwise nat_eq (kind_word k) (kind_word l)
 
 abbrev pub same_layout : Layout → Layout → Bool
-same_layout l m = same_kind l.kind m.kind && (bytes_eq l.shape m.shape && same_places l.places m.places)
+same_layout l m = same_kind l.kind m.kind && (pointwise nat_eq l.shape m.shape && pointwise same l.places m.places)
 
 -- ---- the table of a name
 

@@ -1,25 +1,24 @@
 //! Entries that are appended to the index table.
-ghost use Rattle.std.specs.Prelude.{◌≡◌, ℕ, ◌+◌, ◌<◌, ◌≤◌, length, get_or, pos, ◌≤ℤ◌, ◌<ℤ◌, slice_index_or, slice_set};
-ghost use Rattle.std.proofs.Math.Seq.{paste};
+ghost use Rattle.std.specs.Prelude.{◌≡◌, ℕ, ◌+◌, ◌<◌, ◌≤◌, length, get_or, pos, ◌≤ℤ◌, ◌<ℤ◌, slice_set};
+ghost use Rattle.layout.specs.Layouts.{at as place_of, count as count_of, rank as rank_of};
 ghost use Rattle.records.specs.Written.{written};
 ghost use Rattle.entries.specs.Fresh.{no_key, table_of, tables, records_from};
-ghost use Rattle.entries.specs.Places.{place_entries};
+ghost use Rattle.entries.specs.Places.{entries_at, place_entries};
 
 use layout::catalogue::Catalogue;
-use layout::index::Index;
 use layout::layout_ref::LayoutRef;
-use names::binary_table::to_binary_data_layout;
-use records::record::{BinaryRecord, TableKey};
+use names::binary_table::{TableKey, to_binary_data_layout};
+use records::record::BinaryRecord;
 
 /// Appends a binary table, and answers where its entries end.
-fn write_table<C: Catalogue>(c: &C, key: TableKey, indices: &mut [i32], at: usize) -> usize
-    requires layout { key.layout < length (C.layouts c.now) }
-    requires source { key.source < length (C.layouts c.now) }
-    requires room { at + length (table_of (C.layouts c.now) key) ≤ length indices.old }
-    ensures end { result ≡ at + length (table_of (C.layouts c.now) key) }
-    ensures entries { indices.new ≡ written indices.old at (table_of (C.layouts c.now) key) }
+fn write_table<C: Catalogue>(c: &C, key: &TableKey, indices: &mut [i32], at: usize) -> usize
+    requires layout { key.now.layout < length (C.layouts c.now) }
+    requires source { key.now.source < length (C.layouts c.now) }
+    requires room { at + length (table_of (C.layouts c.now) key.now) ≤ length indices.old }
+    ensures end { result ≡ at + length (table_of (C.layouts c.now) key.now) }
+    ensures entries { indices.new ≡ written indices.old at (table_of (C.layouts c.now) key.now) }
 {
-    match to_binary_data_layout(c, key.layout, key.source, &key.permutation, indices, at) {
+    match to_binary_data_layout(c, key, indices, at) {
         Ok(end) => end,
         Err(_) => unreachable(),
     }
@@ -50,35 +49,39 @@ pub fn write_tables<C: Catalogue>(
     ensures records { binaries.new ≡ written binaries.old number (records_from (C.layouts c.now) at keys.now) }
 {
     let mut end = at;
-    for i in 0..keys.len() {
-        let key = keys[i];
-        put_record(binaries, number + i, BinaryRecord { key, at: end });
+    for (i, key) in keys.iter().enumerate() {
+        let record = BinaryRecord { key: *key, at: end };
+        put_record(binaries, number + i, record);
         end = write_table(c, key, indices, end);
     }
     end
 }
 
 /// An entry of a place, as the index table has it.
-fn entry_of(place: Index, i: usize) -> i32
-    requires there { i < 4 }
-    requires low { pos 0 ≤ℤ slice_index_or place i (pos 0) }
-    requires high { slice_index_or place i (pos 0) <ℤ pos 4096 }
-    ensures { result ≡ slice_index_or place i (pos 0) }
+fn entry_of(entry: i64) -> i32
+    requires low { pos 0 ≤ℤ entry }
+    requires high { entry <ℤ pos 4096 }
+    ensures { result ≡ entry }
 {
-    place[i] as i32
+    entry as i32
 }
 
-/// Appends the first `rank` entries of a place, and answers where they end.
-fn write_place(place: Index, rank: usize, indices: &mut [i32], at: usize) -> usize
-    requires rank { rank ≤ 4 }
-    requires low { (i : ℕ) → pos 0 ≤ℤ slice_index_or place i (pos 0) }
-    requires high { (i : ℕ) → slice_index_or place i (pos 0) <ℤ pos 4096 }
-    requires room { at + rank ≤ length indices.old }
-    ensures end { result ≡ at + rank }
-    ensures entries { indices.new ≡ paste indices.old at place rank }
+/// Appends a place of a layout, entry by entry, and answers where they end.
+fn write_place<C: Catalogue>(
+    layout: &LayoutRef<C>,
+    k: usize,
+    indices: &mut [i32],
+    at: usize,
+) -> usize
+    requires there { k < count_of layout.now }
+    requires room { at + rank_of layout.now ≤ length indices.old }
+    ensures end { result ≡ at + rank_of layout.now }
+    ensures entries { indices.new ≡ written indices.old at (entries_at layout.now (place_of layout.now k)) }
 {
-    for i in 0..rank {
-        indices[at + i] = entry_of(place, i);
+    let rank = layout.rank();
+    let place = layout.place_or_zeros(k);
+    for (i, entry) in place[..rank].iter().enumerate() {
+        indices[at + i] = entry_of(*entry);
     }
     at + rank
 }
@@ -89,10 +92,9 @@ pub fn write_places<C: Catalogue>(layout: &LayoutRef<C>, indices: &mut [i32], at
     ensures end { result ≡ at + length (place_entries layout.now) }
     ensures entries { indices.new ≡ written indices.old at (place_entries layout.now) }
 {
-    let rank = layout.rank();
     let mut end = at;
     for k in 0..layout.count() {
-        end = write_place(layout.place_or_zeros(k), rank, indices, end);
+        end = write_place(layout, k, indices, end);
     }
     end
 }

@@ -4,7 +4,7 @@ use expression::fault::ExpressionFault;
 use expression::node::Node;
 use expression::root_host::RootHost;
 use layout::fault::{Layer, LayoutFault};
-use names::binary_table::{needs_no_table, to_binary_data_layout};
+use names::binary_table::{TableKey, needs_no_table, to_binary_data_layout};
 use names::evaluate::Evaluation;
 use names::fault::NamesFault;
 use names::permutation::Permutation;
@@ -56,25 +56,33 @@ fn values(rt: &impl Abort, t: &Table) -> Result<(), Fail> {
     }
 }
 
+// What a table is of for a name with letters in a block ij.
+fn key(layout: usize, source: usize, name: &[u8; 4]) -> TableKey {
+    TableKey {
+        layout,
+        source,
+        permutation: Permutation::new(2, letters(2, b"ij--"), letters(2, name)),
+    }
+}
+
 fn binary_tables(rt: &impl Abort, t: &Table) {
-    let ji = Permutation::new(2, letters(2, b"ij--"), letters(2, b"ji--"));
-    let ij = Permutation::new(2, letters(2, b"ij--"), letters(2, b"ij--"));
     let mut table = [7; 11];
     assert!(rt;
-        (to_binary_data_layout(t, 0, 1, &ji, &mut table, 1) == Ok(10))
+        (to_binary_data_layout(t, &key(0, 1, b"ji--"), &mut table, 1) == Ok(10))
             & (table == [7, 0, -1, -1, -1, -1, 2, 1, -1, -1, 7])
-            & (to_binary_data_layout(t, 0, 1, &ji, &mut table, 3) == Err(NamesFault::NoRoom))
+            & (to_binary_data_layout(t, &key(0, 1, b"ji--"), &mut table, 3)
+                == Err(NamesFault::NoRoom))
     );
     assert!(rt;
-        to_binary_data_layout(t, 6, 1, &ji, &mut table, 0)
+        to_binary_data_layout(t, &key(6, 1, b"ji--"), &mut table, 0)
             == Err(NamesFault::Layout(LayoutFault::Unknown))
     );
     assert!(rt;
         (table == [7, 0, -1, -1, -1, -1, 2, 1, -1, -1, 7])
-            & (needs_no_table(t, 0, 0, &ij) == Ok(true))
-            & (needs_no_table(t, 0, 0, &ji) == Ok(false))
-            & (needs_no_table(t, 0, 1, &ij) == Ok(false))
-            & (needs_no_table(t, 0, 6, &ij) == Err(LayoutFault::Unknown))
+            & (needs_no_table(t, &key(0, 0, b"ij--")) == Ok(true))
+            & (needs_no_table(t, &key(0, 0, b"ji--")) == Ok(false))
+            & (needs_no_table(t, &key(0, 1, b"ij--")) == Ok(false))
+            & (needs_no_table(t, &key(0, 6, b"ij--")) == Err(LayoutFault::Unknown))
     );
 }
 

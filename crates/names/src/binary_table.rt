@@ -13,6 +13,14 @@ use layout::fault::LayoutFault;
 use layout::find::eq_nonzeros;
 use layout::layout_ref::LayoutRef;
 
+/// What a binary table is of: the layout of a name, that of a source, and the permutation.
+#[derive(Clone, Copy, PartialEq, Eq)]
+pub struct TableKey {
+    pub layout: usize,
+    pub source: usize,
+    pub permutation: Permutation,
+}
+
 /// The entry of a place that has no number in the name's layout.
 const ABSENT: i32 = -1;
 
@@ -62,27 +70,25 @@ fn has_room(length: usize, at: usize, count: usize) -> bool
     at <= length && count <= length - at
 }
 
-/// Appends the binary table of a name's layout under a source at a position of `table`, and gives
-/// the position after it. Refused where a layout does not exist, and then for want of room.
+/// Appends a binary table at a position of `table`, and gives the position after it. Refused where a
+/// layout does not exist, and then for want of room.
 pub fn to_binary_data_layout<C: Catalogue>(
     c: &C,
-    layout: usize,
-    source: usize,
-    permutation: &Permutation,
+    key: &TableKey,
     table: &mut [i32],
     at: usize,
 ) -> Result<usize, NamesFault>
-    ensures { PutFrom at (table_asked (C.layouts c.now) layout source (slots_of permutation.now) at (length table.old)) table.old table.new result }
+    ensures { PutFrom at (table_asked (C.layouts c.now) key.now.layout key.now.source (slots_of key.now.permutation) at (length table.old)) table.old table.new result }
 {
-    let layout = LayoutRef::new(c, layout)?;
-    let source = LayoutRef::new(c, source)?;
+    let layout = LayoutRef::new(c, key.layout)?;
+    let source = LayoutRef::new(c, key.source)?;
     let count = source.count();
     if !has_room(table.len(), at, count) {
         return Err(NamesFault::NoRoom);
     }
     write_table(
         &layout,
-        permutation.meant(),
+        key.permutation.meant(),
         &source,
         &mut table[at..at + count],
     );
@@ -98,13 +104,8 @@ fn is_identity(slots: &[usize]) -> bool
 
 /// Whether a name's layout needs no binary table under a source: the source place's own number
 /// counts then.
-pub fn needs_no_table<C: Catalogue>(
-    c: &C,
-    layout: usize,
-    source: usize,
-    permutation: &Permutation,
-) -> Result<bool, LayoutFault>
-    ensures { NoTableAsked (C.layouts c.now) layout source (slots_of permutation.now) result }
+pub fn needs_no_table<C: Catalogue>(c: &C, key: &TableKey) -> Result<bool, LayoutFault>
+    ensures { NoTableAsked (C.layouts c.now) key.now.layout key.now.source (slots_of key.now.permutation) result }
 {
-    Ok(eq_nonzeros(c, layout, source)? && is_identity(permutation.meant()))
+    Ok(eq_nonzeros(c, key.layout, key.source)? && is_identity(key.permutation.meant()))
 }

@@ -1,5 +1,8 @@
 //! Where the entries of a source place go in a name.
-ghost use Rattle.std.specs.Prelude.{◌≡◌, ◌+◌, ◌<◌, ◌≤◌, [], ◌∷◌, ◌++◌, length, if◌then◌else◌};
+ghost use Rattle.std.specs.Prelude.{◌≡◌, ◌+◌, ◌<◌, ◌≤◌, [], ◌∷◌, ◌++◌, length, nat_eq, if◌then◌else◌};
+ghost use Rattle.std.proofs.Common.{rules};
+ghost use Rattle.std.specs.Cmp.Lexicographic.{pointwise};
+ghost use Rattle.std.specs.Cmp.Rules.{comparing};
 ghost use Rattle.arrayvec.specs.ArrayVec.{array_vec_len};
 ghost use Rattle.expression.specs.Letterings.{letters_of, among};
 ghost use Rattle.names.specs.Reading.{slots_of, packed as packed_of, slot as slot_of, permutation as permutation_of};
@@ -31,6 +34,21 @@ impl Permutation {
         let n = self.count.min(8);
         &self.slots[..n]
     }
+}
+
+/// Two are equal where the slots that are meant are.
+impl PartialEq for Permutation {
+    ghost eq = { λ p q. pointwise nat_eq (slots_of p) (slots_of q) };
+
+    ghost laws = { Prim.search (comparing, rules) };
+
+    fn eq(&self, other: &Permutation) -> bool {
+        self.meant() == other.meant()
+    }
+}
+
+impl Eq for Permutation {
+    ghost laws = { Prim.search (comparing, rules) };
 }
 
 /// The permutation with these slots.

@@ -28,7 +28,7 @@ use Rattle.names.specs.Variables.{environment, is_constant, ready_but}
 use Rattle.records.specs.declared.counts.Counts.{Counts}
 use Rattle.records.specs.declared.counts.Room.{Room}
 use Rattle.records.specs.declared.record.BlockEntry.{BlockEntry}
-use Rattle.records.specs.declared.record.TableKey.{TableKey}
+use Rattle.names.specs.declared.binary_table.TableKey.{TableKey}
 use Rattle.records.specs.declared.record.TensorRecord.{TensorRecord}
 use Rattle.records.specs.Memory.{Model, left, block_short, no_tensor}
 use Rattle.entries.specs.Needed.{needed}

@@ -1,6 +1,6 @@
 //! The records of the stage's tables.
 use expression::node::VariableNumber;
-use names::permutation::Permutation;
+use names::binary_table::TableKey;
 use names::variable::Class;
 use reader::record::BlockRecord;
 use translation::route::Route;
@@ -24,14 +24,6 @@ pub struct BlockEntry {
     pub route: Route,
     pub places: Option<usize>,
     pub read: BlockRecord,
-}
-
-/// What a binary table is of: the layout of a name, that of a source, and the permutation.
-#[derive(Clone, Copy)]
-pub struct TableKey {
-    pub layout: usize,
-    pub source: usize,
-    pub permutation: Permutation,
 }
 
 /// A binary table: what it is of, and where its entries begin in the index table. It has an entry for

@@ -1,13 +1,11 @@
-use Rattle.std.proofs.Common.{sym, refl}
-use Rattle.entries.specs.Fresh.{same_key, has_key, keys_of, no_table}
-use Rattle.entries.proofs.Scanning.{found_here, not_here, nowhere}
+use Rattle.std.proofs.Common.{◌∙◌, rules}
+use Rattle.std.proofs.lemmas.Iterator.{YieldsList-from_slice}
+use Rattle.std.proofs.lemmas.Iterator.Search.{any_from_yields_List}
+use borrow.Author.Tests.{tests}
+use Rattle.records.specs.declared.record.BinaryRecord.{BinaryRecord}
+use Rattle.entries.specs.Fresh.{same_key}
+use Rattle.entries.proofs.Freshness.{has_key_of}
 use Rattle.entries.proofs.fresh.is_recorded.Goals as goal
 
-pub returns-then-same_table : goal.returns-then-same_table
-returns-then-same_table c = found_here (λ rs. has_key c.args.key (keys_of rs)) (λ r. same_key c.args.key r.key) (λ x xs. refl) refl no_table c.args.binaries.now c.loop-i.i c.loop-i.invariant c.loop-i-test.true (sym c.if-same_table.ensures)
-
-pub loop-i-preserved : goal.loop-i-preserved
-loop-i-preserved c = not_here (λ rs. has_key c.args.key (keys_of rs)) (λ r. same_key c.args.key r.key) (λ x xs. refl) refl no_table c.args.binaries.now c.loop-i.i c.loop-i.invariant c.loop-i-test.true (sym c.if-same_table.ensures)
-
 pub returns : goal.returns
-returns c = nowhere (λ rs. has_key c.args.key (keys_of rs)) (λ r. same_key c.args.key r.key) (λ x xs. refl) refl no_table c.args.binaries.now c.loop-i.i c.loop-i.invariant c.loop-i-test.false
+returns c = any_from_yields_List (λ (r : BinaryRecord). same_key r.key c.args.key.now) _ _ _ c.any.ensures.ran (YieldsList-from_slice c.args.binaries.now (search rules)) (λ x b q k. search (rules, tests)) ∙ has_key_of c.args.key.now c.args.binaries.now
