@@ -9,4 +9,5 @@ pub mod find;
 pub mod index;
 pub mod kind;
 pub mod layout_ref;
+pub mod room;
 pub mod shape;

@@ -1,5 +1,5 @@
 //! Binary tables: for each source place, the number that it has in a name's layout.
-ghost use Rattle.std.specs.Prelude.{◌≡◌, ◌+◌, ◌<◌, ◌≤◌, length, IfSome, nat_le};
+ghost use Rattle.std.specs.Prelude.{◌≡◌, ◌+◌, ◌<◌, ◌≤◌, length, IfSome};
 ghost use Rattle.layout.specs.Layouts.{at as place_of, count as count_of};
 ghost use Rattle.layout.specs.Answers.{index_of};
 ghost use Rattle.names.specs.Reading.{slots_of, table_element};
@@ -12,6 +12,7 @@ use layout::catalogue::Catalogue;
 use layout::fault::LayoutFault;
 use layout::find::eq_nonzeros;
 use layout::layout_ref::LayoutRef;
+use layout::room::has_room;
 
 /// What a binary table is of: the layout of a name, that of a source, and the permutation.
 #[derive(Clone, Copy, PartialEq, Eq)]
@@ -61,13 +62,6 @@ fn write_table<C: Catalogue>(
     for (k, entry) in table.iter_mut().enumerate() {
         *entry = entry_at(layout, slots, source, k);
     }
-}
-
-/// Whether a list has room for `count` more from a position on.
-fn has_room(length: usize, at: usize, count: usize) -> bool
-    ensures { result ≡ nat_le (at + count) length }
-{
-    at <= length && count <= length - at
 }
 
 /// Appends a binary table at a position of `table`, and gives the position after it. Refused where a

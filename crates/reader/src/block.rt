@@ -5,7 +5,8 @@ ghost use Rattle.reader.specs.Recorded.{record_of as record_with, recorded, tabl
 
 use crate::record::BlockRecord;
 use layout::catalogue::Catalogue;
-use translation::entries::{has_room, to_data_layout};
+use layout::room::has_room;
+use translation::entries::to_data_layout;
 use translation::kinds::{Translation, TranslationFault};
 use translation::route::{Route, Routed};
 

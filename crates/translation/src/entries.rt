@@ -1,5 +1,5 @@
 //! A translation's entries in the index table.
-ghost use Rattle.std.specs.Prelude.{◌≡◌, ◌+◌, ◌≤◌, length, nat_le};
+ghost use Rattle.std.specs.Prelude.{◌≡◌, ◌+◌, ◌≤◌, length};
 ghost use Rattle.std.proofs.Math.Seq.{paste};
 ghost use Rattle.layout.specs.Layouts.{rank, count as place_count};
 ghost use Rattle.translation.specs.Tos.{destination as destination_of};
@@ -10,6 +10,7 @@ use crate::ranges::{count_ranges, write_ranges};
 use crate::route::{Route, Routed};
 use crate::target::write_destinations;
 use layout::catalogue::Catalogue;
+use layout::room::has_room;
 
 impl Translation {
     /// How many entries the ranges have, so where the listed destinations begin.
@@ -105,13 +106,6 @@ fn write_entries<C: Catalogue>(
 {
     let listed = write_from(translation.from, block, table, at);
     write_to(translation.to, block, table, listed)
-}
-
-/// Whether a table of a length has room for some entries at a position.
-pub fn has_room(length: usize, at: usize, need: usize) -> bool
-    ensures { result ≡ nat_le (at + need) length }
-{
-    need <= length && at <= length - need
 }
 
 /// Appends the entries of a translation to the index table at a position: each range as start and
