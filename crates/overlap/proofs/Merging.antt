@@ -1,5 +1,5 @@
 -- The first place of a row that is among the places of another.
-use Rattle.std.proofs.Common.{◌≡◌, ℕ, ◌+◌, ◌-◌, ◌<◌, ◌≤◌, min, false, eqb, ◌⊎◌, Some, None, Option, sym, ap, ◌∙◌, inl, inr, arith}
+use Rattle.std.proofs.Common.{◌≡◌, ℕ, ◌+◌, ◌-◌, ◌<◌, ◌≤◌, min, MatchOption, unwrap_or, false, eqb, ◌⊎◌, Some, None, Option, sym, ap, ◌∙◌, inl, inr, arith}
 use Rattle.std.proofs.lemmas.Bool.{cases_Bool, cases_lt, cases_order, eqb-true, eq-eqb}
 use Rattle.translation.proofs.Covering.{any_says, any_is}
 use Rattle.overlap.specs.Clashes.{Rising, among}
@@ -88,3 +88,8 @@ module _ (p q : Places) where
       let l : a + k - b < q.many = omega arith in
       let y = t.follow (a + k - b) l in
       shared_first k (a + k - b) i l (omega arith) (λ z n j f e. let w = h.3 z n in let u = r.follow z (omega arith) in let v = t.follow j f in omega arith)
+
+-- from j on, the first place that is not below x, or the end of the row where there is none
+pub skips : (f : ℕ → ℕ) (n j x c : ℕ) (o : Option ℕ) → c ≡ n → j ≤ n → MatchOption o ((k : ℕ) → j ≤ k → k < c → f k < x) (λ i. (j ≤ i) × (i < c) × (x ≤ f i) × ((k : ℕ) → j ≤ k → k < i → f k < x)) → Skips f n j x (unwrap_or o c)
+skips f n j x c None e h m = record { on = omega arith; within = omega arith; below = λ k a b. m k a b; there = λ l. absurd (omega arith) }
+skips f n j x c (Some i) e h m = let b = m.1 in record { on = m.0; within = omega arith; below = m.3; there = λ l. m.2 }

@@ -10,11 +10,10 @@ fn skip_before<R: Row>(row: &R, from: usize, place: usize) -> usize
     requires { from ≤ (R.places row.now).many }
     ensures { Skips (R.places row.now).at (R.places row.now).many from place result }
 {
-    let mut k = from;
-    while k < row.len() && row.place(k) < place {
-        k += 1;
-    }
-    k
+    let count = row.len();
+    (from..count)
+        .find(|k| row.place(*k) >= place)
+        .unwrap_or(count)
 }
 
 /// One pass over both rows.

@@ -8,6 +8,7 @@ use Rattle.names.specs.declared.variable.Class.TheVariants.{Constant, Data, Unst
 use Rattle.names.specs.declared.variable.VariableRecord.{VariableRecord}
 use Rattle.names.specs.Variables.{class_of}
 use Rattle.names.specs.Checks.{and_then}
+use Rattle.records.specs.declared.counts.Amounts.{Amounts}
 use Rattle.records.specs.declared.counts.Counts.{Counts}
 use Rattle.records.specs.declared.counts.Room.{Room}
 use Rattle.records.specs.declared.record.TensorRecord.{TensorRecord}
@@ -27,6 +28,10 @@ abbrev pub data_for : Class → ℕ → ℕ
 data_for Constant places = 0
 data_for Data places = places
 data_for Unstored places = 0
+
+-- what it adds to each table and buffer
+abbrev pub opening_adds : Class → ℕ → Amounts
+opening_adds class places = record { tensors = 1; blocks = 0; variables = 1; binaries = 0; constants = constants_for class places; «data» = data_for class places; indices = 0 }
 
 -- where its values begin
 abbrev pub offset_for : Class → Counts → ℕ

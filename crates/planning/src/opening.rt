@@ -2,34 +2,27 @@
 ghost use Rattle.std.specs.Prelude.{◌≡◌, true};
 ghost use Rattle.layout.specs.Layouts.{blank, count as count_of};
 ghost use Rattle.names.specs.Variables.{class_of};
-ghost use Rattle.planning.specs.Openings.{constants_for, data_for, offset_for, opening_fits, opened_as, opening as OpeningOf};
+ghost use Rattle.planning.specs.Openings.{offset_for, opening_adds, opening_fits, opened_as, opening as OpeningOf};
 
 use crate::fault::StageFault;
 use crate::phase::{Incoming, check_phase};
 use crate::room::{fits, is_opening_short};
 use layout::catalogue::Catalogue;
 use names::variable::Class;
-use records::counts::{Counts, Room};
+use records::counts::{Amounts, Counts, Room};
 use records::limits::LIMITS;
 use records::record::TensorRecord;
 
-/// How many constants a tensor of a class takes.
-pub fn constants_taken(class: Class, places: usize) -> usize
-    ensures { result ≡ constants_for class places }
+/// What a new tensor of a class adds to each table and buffer.
+pub fn opening_amounts(class: Class, places: usize) -> Amounts
+    ensures { result ≡ opening_adds class places }
 {
-    match class {
-        Class::Constant => places,
-        Class::Data | Class::Unstored => 0,
-    }
-}
-
-/// How many places of the data a tensor of a class takes.
-pub fn data_taken(class: Class, places: usize) -> usize
-    ensures { result ≡ data_for class places }
-{
-    match class {
-        Class::Data => places,
-        Class::Constant | Class::Unstored => 0,
+    Amounts {
+        tensors: 1,
+        variables: 1,
+        constants: if class == Class::Constant { places } else { 0 },
+        data: if class == Class::Data { places } else { 0 },
+        ..Amounts::default()
     }
 }
 
@@ -48,16 +41,22 @@ fn offset_of(class: Class, n: Counts) -> usize
 fn has_room(n: Counts, room: Room, class: Class, places: usize) -> bool
     ensures { result ≡ opening_fits n room class places }
 {
-    let records = fits(1, LIMITS.tensors, room.brought.tensors, n.used.tensors)
-        & fits(1, LIMITS.variables, room.brought.variables, n.used.variables);
-    let constants = fits(
-        constants_taken(class, places),
-        LIMITS.constants,
-        room.brought.constants,
-        n.used.constants,
-    );
-    let data = fits(data_taken(class, places), LIMITS.data, room.brought.data, n.used.data);
-    records & (constants & data)
+    let more = opening_amounts(class, places);
+    let Room { brought, .. } = room;
+    let Counts { used, .. } = n;
+    (fits(more.tensors, LIMITS.tensors, brought.tensors, used.tensors)
+        & fits(
+            more.variables,
+            LIMITS.variables,
+            brought.variables,
+            used.variables,
+        ))
+        & (fits(
+            more.constants,
+            LIMITS.constants,
+            brought.constants,
+            used.constants,
+        ) & fits(more.data, LIMITS.data, brought.data, used.data))
 }
 
 /// The record of a new tensor of the class with a number.

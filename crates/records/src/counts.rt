@@ -2,7 +2,7 @@
 use expression::node::VariableNumber;
 
 /// An amount of each table and buffer.
-#[derive(Clone, Copy, PartialEq, Eq)]
+#[derive(Clone, Copy, Default, PartialEq, Eq)]
 pub struct Amounts {
     pub tensors: usize,
     pub blocks: usize,
