@@ -47,6 +47,7 @@ fn add_needed(
 
 /// Lists the tables that the names of a block need, in node order, each once and none that has a
 /// record, and counts them.
+#[tactic(auto, using(crate::proofs::Freshness::listed_more, crate::proofs::Freshness::listed_all))]
 pub fn fresh_tables<C: Catalogue>(
     names: &BlockNames<C>,
     nodes: &[Node],
