@@ -18,7 +18,7 @@ use Rattle.records.specs.Written.{written}
 use Rattle.entries.specs.Fresh.{no_key, table_of, tables, records_from}
 
 -- a table has an entry a place of its source
-pub table_long : (ls : List Layout) (k : TableKey) → length (table_of ls k) ≡ count (get_or ls k.source blank)
+table_long : (ls : List Layout) (k : TableKey) → length (table_of ls k) ≡ count (get_or ls k.source blank)
 table_long ls k = length-map (get_or ls k.source blank).places (λ p. entry_of (table_element (get_or ls k.layout blank) (slots_of k.permutation) (index_of p)))
 
 -- a table that there is, with room for it, is written
@@ -32,22 +32,22 @@ module _ (ls : List Layout) (k : TableKey) (at : ℕ) (before : List ℤ) (hl : 
       (p.0, p.1 ∙ sym (paste_all before at (table_of ls k) (length (table_of ls k)) refl))
 
 -- one part more, from where the last ended
-pub written_more : {X : Type 0} (d e xs ys : List X) (at end : ℕ) → at ≤ length d → end ≡ at + length xs → e ≡ written d at xs → written e end ys ≡ written d at (xs ++ ys)
+written_more : {X : Type 0} (d e xs ys : List X) (at end : ℕ) → at ≤ length d → end ≡ at + length xs → e ≡ written d at xs → written e end ys ≡ written d at (xs ++ ys)
 written_more d e xs ys at end h ee ed = rw (ed, ee) (paste-paste d at xs ys (length xs) (length ys) refl refl h ∙ ap (paste d at (xs ++ ys)) (sym (length-append xs ys)))
 
-pub written_long : {X : Type 0} (d xs : List X) (at : ℕ) → at + length xs ≤ length d → length (written d at xs) ≡ length d
+written_long : {X : Type 0} (d xs : List X) (at : ℕ) → at + length xs ≤ length d → length (written d at xs) ≡ length d
 written_long d xs at h = length-paste d at xs (length xs) h (omega arith)
 
 -- one element more
-pub set_written : {X : Type 0} (d : List X) (at : ℕ) (x : X) → at < length d → set d at x ≡ written d at (x ∷ [])
+set_written : {X : Type 0} (d : List X) (at : ℕ) (x : X) → at < length d → set d at x ≡ written d at (x ∷ [])
 set_written d at x h = set_split d at x h ∙ ap (λ n. take at d ++ x ∷ drop n d) (sym (add-one at)) ∙ sym (paste_all d at (x ∷ []) 1 refl)
 
 -- the records of tables, with one more
-pub records_push : (ls : List Layout) (at : ℕ) (ks : List TableKey) (k : TableKey) → records_from ls at (ks ++ k ∷ []) ≡ records_from ls at ks ++ record { key = k; at = at + length (tables ls ks) } ∷ []
+records_push : (ls : List Layout) (at : ℕ) (ks : List TableKey) (k : TableKey) → records_from ls at (ks ++ k ∷ []) ≡ records_from ls at ks ++ record { key = k; at = at + length (tables ls ks) } ∷ []
 records_push ls at [] k = let e : at ≡ at + 0 = omega arith in ap (λ n. record { key = k; at = n } ∷ []) e
 records_push ls at (x ∷ ks) k = grind (arith, common_steps, records_push ls (at + length (table_of ls x)) ks k)
 
-pub records_long : (ls : List Layout) (at : ℕ) (ks : List TableKey) → length (records_from ls at ks) ≡ length ks
+records_long : (ls : List Layout) (at : ℕ) (ks : List TableKey) → length (records_from ls at ks) ≡ length ks
 records_long ls at [] = refl
 records_long ls at (x ∷ ks) = ap suc (records_long ls (at + length (table_of ls x)) ks)
 
@@ -82,8 +82,4 @@ module _ (ls : List Layout) (keys : List TableKey) (at i : ℕ) (h : i < length 
       let n : length rs ≡ i = records_long ls at front ∙ length-take-le i keys (omega arith) in
       let long : length c ≡ length b = ap length ec ∙ written_long b rs number (omega arith) in
       let x : BinaryRecord = record { key = key; at = end } in
-      let y : BinaryRecord = record { key = key; at = at + length (tables ls front) } in
-      let xy : x ≡ y = ap (λ m. record { key = key; at = m }) ee in
-      en ∙ set_written c (number + i) x (omega arith) ∙ written_more b c rs (x ∷ []) number (number + i) (omega arith) (omega arith) ec
-      ∙ ap (λ z. written b number (rs ++ z ∷ [])) xy
-      ∙ ap (written b number) (sym (ap (records_from ls at) (take_more keys i no_key h) ∙ records_push ls at front key))
+      rw (take_more keys i no_key h, records_push ls at front key, ← ee) (en ∙ set_written c (number + i) x (omega arith) ∙ written_more b c rs (x ∷ []) number (number + i) (omega arith) (omega arith) ec)
