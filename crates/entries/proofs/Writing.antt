@@ -1,17 +1,15 @@
 -- Entries and records as they are appended.
-use Rattle.std.proofs.Common.{◌≡◌, ℕ, suc, ◌+◌, ◌<◌, ◌≤◌, cond, ltb, leb, List, [], ◌∷◌, ◌++◌, length, get_or, take, drop, set, ℤ, Ok, Err, Result, sym, refl, ap, ◌∙◌, subst, append-nil, add-one, arith, length-append}
+use Rattle.std.proofs.Common.{◌≡◌, ℕ, suc, ◌+◌, ◌<◌, ◌≤◌, List, [], ◌∷◌, ◌++◌, length, get_or, take, drop, set, ℤ, Ok, Result, sym, refl, ap, ◌∙◌, subst, append-nil, add-one, arith, length-append}
 use lib.ListN.{length-map}
 use Rattle.std.specs.List.{flat_map}
 use lib.Seq.{paste}
 use Rattle.std.proofs.lemmas.List.Edits.{paste_all, paste-paste, length-paste}
-use Rattle.std.proofs.lemmas.Grind.{flat_map-append}
+use Rattle.std.proofs.lemmas.Grind.{common_steps, flat_map-append}
 use Rattle.std.proofs.lemmas.List.{set_split, take_more, length-take-le}
-use Rattle.std.proofs.lemmas.Bool.{lt-ltb, le-leb, and_from}
+use Rattle.std.proofs.lemmas.Bool.{lt-ltb, le-leb}
 use Rattle.layout.specs.Layouts.{Layout, blank, count}
 use Rattle.layout.specs.Answers.{index_of}
-use Rattle.layout.specs.declared.fault.LayoutFault.TheVariants.{Unknown}
 use Rattle.names.specs.declared.fault.NamesFault.{NamesFault}
-use Rattle.names.specs.declared.fault.NamesFault.TheVariants.{Layout as OfLayout, NoRoom}
 use Rattle.names.specs.Reading.{slots_of, table_element}
 use Rattle.names.specs.Tables.{entry_of, table_asked, PutFrom}
 use Rattle.names.specs.declared.binary_table.TableKey.{TableKey}
@@ -20,49 +18,36 @@ use Rattle.records.specs.Written.{written}
 use Rattle.entries.specs.Fresh.{no_key, table_of, tables, records_from}
 
 -- a table has an entry a place of its source
-pub table_long : (ls : List Layout) (k : TableKey) → length (table_of ls k) ≡ count (get_or ls k.source blank)
+table_long : (ls : List Layout) (k : TableKey) → length (table_of ls k) ≡ count (get_or ls k.source blank)
 table_long ls k = length-map (get_or ls k.source blank).places (λ p. entry_of (table_element (get_or ls k.layout blank) (slots_of k.permutation) (index_of p)))
 
--- a table that there is, with room for it
-module _ (ls : List Layout) (k : TableKey) (at : ℕ) (before after : List ℤ) (r : Result ℕ NamesFault) (hl : k.layout < length ls) (hs : k.source < length ls) (room : at + length (table_of ls k) ≤ length before)
-    (h : PutFrom at (table_asked ls k.layout k.source (slots_of k.permutation) at (length before)) before after r) where
+-- a table that there is, with room for it, is written
+module _ (ls : List Layout) (k : TableKey) (at : ℕ) (before : List ℤ) (hl : k.layout < length ls) (hs : k.source < length ls) (room : at + length (table_of ls k) ≤ length before) where
   asked_ok : table_asked ls k.layout k.source (slots_of k.permutation) at (length before) ≡ Ok (table_of ls k)
-  asked_ok =
-      let e = and_from (ltb k.layout (length ls)) (ltb k.source (length ls)) (lt-ltb _ _ hl) (lt-ltb _ _ hs) in
-      let f = le-leb (at + count (get_or ls k.source blank)) (length before) (omega (arith, table_long ls k)) in
-      ap (λ b. cond b (cond (leb (at + count (get_or ls k.source blank)) (length before)) (Ok (table_of ls k)) (Err NoRoom)) (Err (OfLayout Unknown))) e
-      ∙ ap (λ b. cond b (Ok (table_of ls k)) (Err NoRoom)) f
+  asked_ok = simp (lt-ltb _ _ hl, lt-ltb _ _ hs, le-leb (at + count (get_or ls k.source blank)) (length before) (omega (arith, table_long ls k)))
 
-  put : PutFrom at (Ok (table_of ls k)) before after r
-  put = subst (λ a. PutFrom at a before after r) asked_ok h
-
-  pub put_end : r ≡ Ok (at + length (table_of ls k))
-  put_end = put.0
-
-  pub put_written : after ≡ written before at (table_of ls k)
-  put_written = put.1 ∙ sym (paste_all before at (table_of ls k) (length (table_of ls k)) refl)
+  pub put_written : (after : List ℤ) (r : Result ℕ NamesFault) → PutFrom at (table_asked ls k.layout k.source (slots_of k.permutation) at (length before)) before after r → (r ≡ Ok (at + length (table_of ls k))) × (after ≡ written before at (table_of ls k))
+  put_written after r h =
+      let p : PutFrom at (Ok (table_of ls k)) before after r = subst (λ a. PutFrom at a before after r) asked_ok h in
+      (p.0, p.1 ∙ sym (paste_all before at (table_of ls k) (length (table_of ls k)) refl))
 
 -- one part more, from where the last ended
-pub written_more : {X : Type 0} (d e xs ys : List X) (at end : ℕ) → at ≤ length d → end ≡ at + length xs → e ≡ written d at xs → written e end ys ≡ written d at (xs ++ ys)
-written_more d e xs ys at end h ee ed =
-    ap (λ l. written l end ys) ed ∙ ap (λ n. paste (written d at xs) n ys (length ys)) ee ∙ paste-paste d at xs ys (length xs) (length ys) refl refl h
-    ∙ ap (paste d at (xs ++ ys)) (sym (length-append xs ys))
+written_more : {X : Type 0} (d e xs ys : List X) (at end : ℕ) → at ≤ length d → end ≡ at + length xs → e ≡ written d at xs → written e end ys ≡ written d at (xs ++ ys)
+written_more d e xs ys at end h ee ed = rw (ed, ee) (paste-paste d at xs ys (length xs) (length ys) refl refl h ∙ ap (paste d at (xs ++ ys)) (sym (length-append xs ys)))
 
-pub written_long : {X : Type 0} (d xs : List X) (at : ℕ) → at + length xs ≤ length d → length (written d at xs) ≡ length d
+written_long : {X : Type 0} (d xs : List X) (at : ℕ) → at + length xs ≤ length d → length (written d at xs) ≡ length d
 written_long d xs at h = length-paste d at xs (length xs) h (omega arith)
 
 -- one element more
-pub set_written : {X : Type 0} (d : List X) (at : ℕ) (x : X) → at < length d → set d at x ≡ written d at (x ∷ [])
+set_written : {X : Type 0} (d : List X) (at : ℕ) (x : X) → at < length d → set d at x ≡ written d at (x ∷ [])
 set_written d at x h = set_split d at x h ∙ ap (λ n. take at d ++ x ∷ drop n d) (sym (add-one at)) ∙ sym (paste_all d at (x ∷ []) 1 refl)
 
 -- the records of tables, with one more
-pub records_push : (ls : List Layout) (at : ℕ) (ks : List TableKey) (k : TableKey) → records_from ls at (ks ++ k ∷ []) ≡ records_from ls at ks ++ record { key = k; at = at + length (tables ls ks) } ∷ []
+records_push : (ls : List Layout) (at : ℕ) (ks : List TableKey) (k : TableKey) → records_from ls at (ks ++ k ∷ []) ≡ records_from ls at ks ++ record { key = k; at = at + length (tables ls ks) } ∷ []
 records_push ls at [] k = let e : at ≡ at + 0 = omega arith in ap (λ n. record { key = k; at = n } ∷ []) e
-records_push ls at (x ∷ ks) k =
-    let e : at + length (table_of ls x) + length (tables ls ks) ≡ at + length (table_of ls x ++ tables ls ks) = omega (arith, length-append (table_of ls x) (tables ls ks)) in
-    ap (λ l. record { key = x; at = at } ∷ l) (records_push ls (at + length (table_of ls x)) ks k ∙ ap (λ n. records_from ls (at + length (table_of ls x)) ks ++ record { key = k; at = n } ∷ []) e)
+records_push ls at (x ∷ ks) k = grind (arith, common_steps, records_push ls (at + length (table_of ls x)) ks k)
 
-pub records_long : (ls : List Layout) (at : ℕ) (ks : List TableKey) → length (records_from ls at ks) ≡ length ks
+records_long : (ls : List Layout) (at : ℕ) (ks : List TableKey) → length (records_from ls at ks) ≡ length ks
 records_long ls at [] = refl
 records_long ls at (x ∷ ks) = ap suc (records_long ls (at + length (table_of ls x)) ks)
 
@@ -97,8 +82,4 @@ module _ (ls : List Layout) (keys : List TableKey) (at i : ℕ) (h : i < length 
       let n : length rs ≡ i = records_long ls at front ∙ length-take-le i keys (omega arith) in
       let long : length c ≡ length b = ap length ec ∙ written_long b rs number (omega arith) in
       let x : BinaryRecord = record { key = key; at = end } in
-      let y : BinaryRecord = record { key = key; at = at + length (tables ls front) } in
-      let xy : x ≡ y = ap (λ m. record { key = key; at = m }) ee in
-      en ∙ set_written c (number + i) x (omega arith) ∙ written_more b c rs (x ∷ []) number (number + i) (omega arith) (omega arith) ec
-      ∙ ap (λ z. written b number (rs ++ z ∷ [])) xy
-      ∙ ap (written b number) (sym (ap (records_from ls at) (take_more keys i no_key h) ∙ records_push ls at front key))
+      rw (take_more keys i no_key h, records_push ls at front key, ← ee) (en ∙ set_written c (number + i) x (omega arith) ∙ written_more b c rs (x ∷ []) number (number + i) (omega arith) (omega arith) ec)

@@ -42,6 +42,3 @@ records_from ls at (k ∷ ks) = record { key = k; at = at } ∷ records_from ls 
 
 abbrev pub no_key : TableKey
 no_key = record { layout = 0; source = 0; permutation = record { count = 0; slots = [] } }
-
-abbrev pub no_table : BinaryRecord
-no_table = record { key = no_key; at = 0 }

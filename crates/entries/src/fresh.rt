@@ -35,18 +35,18 @@ fn add_needed(
     ensures keys { take result keys.new ≡ take count keys.old ++ added (keys_of binaries.now ++ take count keys.old) needed }
     ensures count { result ≤ count + 1 }
 {
-    let Some(key) = needed else {
-        return count;
-    };
-    if is_known(binaries, &keys[..count], &key) {
-        return count;
+    match needed {
+        Some(key) if !is_known(binaries, &keys[..count], &key) => {
+            keys[count] = key;
+            count + 1
+        }
+        _ => count,
     }
-    keys[count] = key;
-    count + 1
 }
 
 /// Lists the tables that the names of a block need, in node order, each once and none that has a
 /// record, and counts them.
+#[tactic(auto, using(crate::proofs::Freshness::listed_more, crate::proofs::Freshness::listed_all))]
 pub fn fresh_tables<C: Catalogue>(
     names: &BlockNames<C>,
     nodes: &[Node],

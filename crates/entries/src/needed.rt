@@ -25,16 +25,8 @@ pub struct BlockNames<'a, C: Catalogue> {
 }
 
 impl<'a, C: Catalogue> BlockNames<'a, C> {
-    /// Whether the source place's own number counts for a name with a layout.
-    fn is_own(&self, key: &TableKey) -> bool
-        requires layout { key.now.layout < length (C.layouts self.now.scope.now.catalogue.now) }
-        requires source { key.now.source ≡ self.now.block.source }
-        ensures { result ≡ own_number (slice_index_or (C.layouts self.now.scope.now.catalogue.now) key.now.layout blank) (slice_index_or (C.layouts self.now.scope.now.catalogue.now) key.now.source blank) (slots_of key.now.permutation) }
-    {
-        needs_no_table(self.scope.catalogue, key).unwrap_or(false)
-    }
-
-    /// The table of a name with a layout.
+    /// The table of a name with a layout, unless the source place's own number counts.
+    #[tactic(auto, using(crate::proofs::Sameness::own_asked))]
     fn table_of_name(&self, layout: usize, name: Letters) -> Option<TableKey>
         ensures { result ≡ named_table (C.layouts self.now.scope.now.catalogue.now) self.now.block.source (letters_of self.now.block.letters) (letters_of name) layout }
     {
@@ -47,7 +39,11 @@ impl<'a, C: Catalogue> BlockNames<'a, C> {
             source: self.block.source,
             permutation: Permutation::new(shape.rank, self.block.letters, name),
         };
-        if self.is_own(&key) { None } else { Some(key) }
+        if needs_no_table(self.scope.catalogue, &key).unwrap_or(false) {
+            None
+        } else {
+            Some(key)
+        }
     }
 
     /// The table of a variable under letters.

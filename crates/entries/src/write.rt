@@ -11,6 +11,7 @@ use names::binary_table::{TableKey, to_binary_data_layout};
 use records::record::BinaryRecord;
 
 /// Appends a binary table, and answers where its entries end.
+#[tactic(auto, using(crate::proofs::Writing::put_written))]
 fn write_table<C: Catalogue>(c: &C, key: &TableKey, indices: &mut [i32], at: usize) -> usize
     requires layout { key.now.layout < length (C.layouts c.now) }
     requires source { key.now.source < length (C.layouts c.now) }

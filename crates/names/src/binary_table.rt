@@ -1,7 +1,6 @@
 //! Binary tables: for each source place, the number that it has in a name's layout.
 ghost use Rattle.std.specs.Prelude.{◌≡◌, ◌+◌, ◌<◌, ◌≤◌, length, IfSome};
-ghost use Rattle.layout.specs.Layouts.{at as place_of, count as count_of};
-ghost use Rattle.layout.specs.Answers.{index_of};
+ghost use Rattle.layout.specs.Layouts.{count as count_of};
 ghost use Rattle.names.specs.Reading.{slots_of, table_element};
 ghost use Rattle.names.specs.Tables.{entry_of, binary_table, table_asked, PutFrom, identity_from, NoTableAsked};
 
@@ -11,6 +10,7 @@ use crate::permutation::Permutation;
 use layout::catalogue::Catalogue;
 use layout::fault::LayoutFault;
 use layout::find::eq_nonzeros;
+use layout::index::Index;
 use layout::layout_ref::LayoutRef;
 use layout::room::has_room;
 
@@ -36,17 +36,12 @@ fn table_entry(number: Option<usize>) -> i32
     }
 }
 
-/// The entry of source place `k`.
-fn entry_at<C: Catalogue>(
-    layout: &LayoutRef<C>,
-    slots: &[usize],
-    source: &LayoutRef<C>,
-    k: usize,
-) -> i32
-    ensures { result ≡ entry_of (table_element layout.now slots.now (index_of (place_of source.now k))) }
+/// The entry of a source place.
+fn entry_at<C: Catalogue>(layout: &LayoutRef<C>, slots: &[usize], place: Index) -> i32
+    ensures { result ≡ entry_of (table_element layout.now slots.now place) }
 {
     let rank = layout.shape().rank;
-    table_entry(layout.find_nnz_index(permuted(rank, slots, source.place_or_zeros(k))))
+    table_entry(layout.find_nnz_index(permuted(rank, slots, place)))
 }
 
 /// Writes the entry of each source place.
@@ -60,7 +55,7 @@ fn write_table<C: Catalogue>(
     ensures { table.new ≡ binary_table layout.now source.now slots.now }
 {
     for (k, entry) in table.iter_mut().enumerate() {
-        *entry = entry_at(layout, slots, source, k);
+        *entry = entry_at(layout, slots, source.place_or_zeros(k));
     }
 }
 
