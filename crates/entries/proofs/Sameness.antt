@@ -1,28 +1,35 @@
 -- The tests of equal layouts decide.
 use Rattle.std.proofs.Common.{◌≡◌, ℕ, ◌<◌, Bool, true, false, List, length, get_or, Ok, Err, Result, Decides, sym, refl, ap, ◌∙◌}
+use Rattle.std.proofs.lemmas.Bool.{false≢true}
 use Rattle.std.proofs.lemmas.Bool.Decides.{Decides-eqb, Decides-and}
 use Rattle.std.proofs.lemmas.Slice.Eq.{slice_eq-Decides}
 use Rattle.std.specs.Result.{result_unwrap_or}
 use Rattle.layout.specs.declared.fault.LayoutFault.{LayoutFault}
 use Rattle.layout.specs.declared.kind.LayoutKind.{LayoutKind}
 use Rattle.layout.specs.declared.kind.LayoutKind.TheVariants.{Dense, Diagonal, Sparse}
-use Rattle.layout.specs.Words.{kind_word}
 use Rattle.layout.specs.Places.{Place, same}
 use Rattle.layout.specs.Layouts.{Layout, blank}
 use Rattle.layout.proofs.Finding.{same_true, same_self}
 use Rattle.names.specs.Tables.{NoTable, NoTableAsked, identity_from}
-use Rattle.entries.specs.Needed.{same_layout, own_number}
+use Rattle.entries.specs.Needed.{same_kind, same_layout, own_number}
 
-words_tell : (k l : LayoutKind) → kind_word k ≡ kind_word l → k ≡ l
-words_tell Dense Dense e = refl
-words_tell Dense Diagonal e = cc
-words_tell Dense Sparse e = cc
-words_tell Diagonal Dense e = cc
-words_tell Diagonal Diagonal e = refl
-words_tell Diagonal Sparse e = cc
-words_tell Sparse Dense e = cc
-words_tell Sparse Diagonal e = cc
-words_tell Sparse Sparse e = refl
+kind_decides : (k l : LayoutKind) → Decides (same_kind k l) (k ≡ l)
+kind_decides k l = (same k l, λ e. ap (same_kind k) (sym e) ∙ self k) where
+  same : (k l : LayoutKind) → same_kind k l ≡ true → k ≡ l
+  same Dense Dense h = refl
+  same Dense Diagonal h = absurd (false≢true h)
+  same Dense Sparse h = absurd (false≢true h)
+  same Diagonal Dense h = absurd (false≢true h)
+  same Diagonal Diagonal h = refl
+  same Diagonal Sparse h = absurd (false≢true h)
+  same Sparse Dense h = absurd (false≢true h)
+  same Sparse Diagonal h = absurd (false≢true h)
+  same Sparse Sparse h = refl
+
+  self : (k : LayoutKind) → same_kind k k ≡ true
+  self Dense = refl
+  self Diagonal = refl
+  self Sparse = refl
 
 place_decides : (p q : Place) → Decides (same p q) (p ≡ q)
 place_decides p q = (same_true p q, λ e. ap (same p) (sym e) ∙ same_self p)
@@ -34,9 +41,9 @@ same_parts l m k s p =
 
 layout_decides : (l m : Layout) → Decides (same_layout l m) (l ≡ m)
 layout_decides l m =
-    let d = Decides-and _ _ (slice_eq-Decides Decides-eqb (kind_word l.kind) (kind_word m.kind) _ refl) (Decides-and _ _ (slice_eq-Decides Decides-eqb l.shape m.shape _ refl) (slice_eq-Decides place_decides l.places m.places _ refl)) in (
-      λ h. let p = d.0 h in same_parts l m (words_tell l.kind m.kind p.0) p.1.0 p.1.1,
-      λ e. d.1 (ap (λ (x : Layout). kind_word x.kind) e, (ap (λ (x : Layout). x.shape) e, ap (λ (x : Layout). x.places) e)),
+    let d = Decides-and _ _ (kind_decides l.kind m.kind) (Decides-and _ _ (slice_eq-Decides Decides-eqb l.shape m.shape _ refl) (slice_eq-Decides place_decides l.places m.places _ refl)) in (
+      λ h. let p = d.0 h in same_parts l m p.0 p.1.0 p.1.1,
+      λ e. d.1 (ap (λ (x : Layout). x.kind) e, (ap (λ (x : Layout). x.shape) e, ap (λ (x : Layout). x.places) e)),
     )
 
 -- two tests that decide one fact are equal

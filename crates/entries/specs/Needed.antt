@@ -3,7 +3,6 @@ use Rattle.std.specs.Prelude.{ℕ, Bool, true, false, ◌&&◌, List, nat_eq, ge
 use Rattle.std.specs.Cmp.Lexicographic.{pointwise}
 use Rattle.layout.specs.declared.kind.LayoutKind.{LayoutKind}
 use Rattle.layout.specs.declared.kind.LayoutKind.TheVariants.{Dense, Diagonal, Sparse}
-use Rattle.layout.specs.Words.{kind_word}
 use Rattle.layout.specs.Places.{same}
 use Rattle.layout.specs.Layouts.{Layout, blank, rank}
 use Rattle.expression.specs.declared.node.Node.{Node}
@@ -17,9 +16,16 @@ use Rattle.names.specs.declared.binary_table.TableKey.{TableKey}
 
 -- ---- layouts that are equal
 
--- kinds are told apart by their words
 abbrev pub same_kind : LayoutKind → LayoutKind → Bool
-same_kind k l = pointwise nat_eq (kind_word k) (kind_word l)
+same_kind Dense Dense = true
+same_kind Dense Diagonal = false
+same_kind Dense Sparse = false
+same_kind Diagonal Dense = false
+same_kind Diagonal Diagonal = true
+same_kind Diagonal Sparse = false
+same_kind Sparse Dense = false
+same_kind Sparse Diagonal = false
+same_kind Sparse Sparse = true
 
 abbrev pub same_layout : Layout → Layout → Bool
 same_layout l m = same_kind l.kind m.kind && (pointwise nat_eq l.shape m.shape && pointwise same l.places m.places)
