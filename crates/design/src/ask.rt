@@ -5,7 +5,8 @@ ghost use Rattle.design.specs.Keywords.{lookup_word};
 use layout::index::Index;
 use std::fmt;
 
-/// An index as a question gives it: so many entries, and 0 beyond.
+/// An index as a question gives it: so many entries, and 0 beyond. All four are looked up, so they
+/// are no list that ends.
 #[derive(Clone, Copy)]
 pub struct Entries {
     pub count: usize,

@@ -54,6 +54,7 @@ fn read_places<'a>(
         words.end()?;
         return Ok(0);
     }
+    // Place and entries are what a refusal tells.
     let mut place = 0;
     let mut entries = 0;
     while let Some(word) = words.next_word() {

@@ -25,7 +25,7 @@ pub struct Words<'a> {
     ghost valid: { scalars (chars (split_whitespace_rest rest)) ≡ true },
 }
 
-/// Numbers, and whether a `:` stands after them.
+/// Numbers, and whether a `:` stands after them, which they may do without.
 #[derive(Drop)]
 pub struct Numbers<N> {
     pub values: Vec<N>,

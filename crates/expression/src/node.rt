@@ -3,7 +3,8 @@
 /// The number of a variable.
 pub type VariableNumber = u8;
 
-/// Up to four letters, by their codes: those before `count` are meant.
+/// Up to four letters, by their codes: those before `count` are meant. A plain record of fixed
+/// size: a count above four may be given, and is refused.
 #[derive(Clone, Copy)]
 pub struct Letters {
     pub count: u8,
@@ -26,7 +27,8 @@ pub enum UnaryOperator {
     Minus,
 }
 
-/// One node of an expression in postfix order. A function goes by its code.
+/// One node of an expression in postfix order. A function goes by its code, a number, since one
+/// that no function has may be given, and is refused.
 #[derive(Clone, Copy)]
 pub enum Node {
     Number(f64),

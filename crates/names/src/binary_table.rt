@@ -30,6 +30,7 @@ fn table_entry(number: Option<usize>) -> i32
     requires { IfSome number (λ n. n < 65536) }
     ensures { result ≡ entry_of number }
 {
+    // A closure would need the bound as a clause of its own.
     match number {
         Some(n) => n as i32,
         None => ABSENT,

@@ -11,7 +11,8 @@ use arrayvec::ArrayVec;
 use expression::letters::{is_among, meant, position_of};
 use expression::node::Letters;
 
-/// A slot of the name for each entry of a source place: the slots before `count` are meant.
+/// A slot of the name for each entry of a source place: the slots before `count` are meant. A plain
+/// record of fixed size, as it stands in lent tables.
 #[derive(Clone, Copy)]
 pub struct Permutation {
     pub count: usize,

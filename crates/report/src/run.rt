@@ -20,7 +20,7 @@ use std::alloc::{AllocError, Global};
 use table::record::LayoutRecord;
 use table::table::Table;
 
-/// How a design is answered.
+/// How a design is answered, as the command line says it.
 #[derive(Clone, Copy, PartialEq, Eq)]
 pub enum Form {
     /// In plain words, with pictures.

@@ -10,7 +10,7 @@ const USAGE: &str = "usage: stage [--facts] [FILE]
 Answers the questions of a design. Without FILE, or with -, it reads the standard input.
 --facts prints one fact a line, for comparing.";
 
-/// Where a design is read from.
+/// Where a design is read from: an Option of a name would not say that none is the standard input.
 #[derive(Drop)]
 enum Source {
     Input,

@@ -116,6 +116,8 @@ impl<'a> Places<'a> {
         requires { Ascending self.now.pool.now self.now.layout }
         ensures { MatchOption result ((k : ℕ) → k < self.now.layout.count → record_place self.now.pool.now self.now.layout k ≢ place_of p) (λ k. (k < self.now.layout.count) × (record_place self.now.pool.now self.now.layout k ≡ place_of p)) }
     {
+        // The places are strided by a rank that is known only now, so no slice of them is there for
+        // the library to search.
         let mut low = 0;
         let mut high = self.layout.count;
         while low < high {

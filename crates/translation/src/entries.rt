@@ -1,4 +1,4 @@
-//! A translation's entries in the index table.
+//! A translation's entries in the index table, which is lent, and appended to from a position.
 ghost use Rattle.std.specs.Prelude.{◌≡◌, ◌+◌, ◌≤◌, length};
 ghost use Rattle.std.proofs.Math.Seq.{paste};
 ghost use Rattle.layout.specs.Layouts.{rank, count as place_count};

@@ -54,7 +54,8 @@ fn write_pair(table: &mut [i32], at: usize, a: usize, b: usize)
     table[at + 1] = b as i32;
 }
 
-/// Appends each range as its start and end, and answers where the entries end.
+/// Appends each range as its start and end, and answers where the entries end. The walk is that of
+/// `count_ranges`; one walk for both would hand table and position through a closure.
 pub(crate) fn write_ranges<C: Catalogue>(
     m: usize,
     layout: &LayoutRef<C>,

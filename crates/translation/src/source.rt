@@ -14,6 +14,7 @@ use layout::layout_ref::LayoutRef;
 fn tail_size<C: Catalogue>(layout: &LayoutRef<C>, m: usize) -> usize
     ensures { result ≡ tail_size_rule m (shape_of layout.now).lengths }
 {
+    // Written out, since a product over the slice needs a bound on each partial product.
     let n = layout.shape().lengths;
     match m {
         0 => n[1] * n[2] * n[3] * n[0],
