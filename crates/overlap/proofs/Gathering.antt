@@ -1,6 +1,6 @@
 -- The first clash with a list of blocks, block after block.
-use Rattle.std.proofs.Common.{◌≡◌, ℕ, ◌+◌, ◌<◌, ◌≤◌, Bool, true, false, cond, ◌||◌, eqb, List, [], ◌∷◌, ◌++◌, length, get_or, take, ℤ, None, Option, sym, refl, ap, ◌∙◌}
-use Rattle.std.proofs.lemmas.List.{take_more, take_all}
+use Rattle.std.proofs.Common.{◌≡◌, ℕ, ◌+◌, ◌<◌, Bool, true, false, cond, ◌||◌, eqb, List, [], ◌∷◌, ◌++◌, length, get_or, take, ℤ, None, Option, sym, refl, ap, ◌∙◌}
+use Rattle.std.proofs.lemmas.List.{take_more}
 use Rattle.reader.specs.Rules.{destination}
 use Rattle.records.specs.declared.record.BlockEntry.{BlockEntry}
 use Rattle.overlap.specs.Clashes.{among, stores, stored_at, first_that}
@@ -37,6 +37,3 @@ module _ (bs : List BlockEntry) (is : List ℤ) (tensor : ℕ) (p : Places) wher
 
   pub clash_none : None ≡ clash_in (take 0 bs)
   clash_none = none_first p.many
-
-  pub clash_all : (i : ℕ) (a : Option ℕ) → length bs ≤ i → a ≡ clash_in (take i bs) → a ≡ clash_in bs
-  clash_all i a h e = e ∙ ap (λ xs. clash_in xs) (take_all i bs h)

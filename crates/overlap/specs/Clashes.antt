@@ -20,6 +20,11 @@ pub record Orderly (r : BlockRecord) (is : List ℤ) : Type 0 where
   pub reached : Reached r is
   pub rises : Rising (destination r is) r.via
 
+-- blocks with their index table
+pub record Earlier : Type 0 where
+  pub blocks : List BlockEntry
+  pub indices : List ℤ
+
 -- p is among n places
 abbrev pub among : (ℕ → ℕ) → ℕ → ℕ → Bool
 among f n p = any (λ j. nat_eq (f j) p) n

@@ -1,11 +1,11 @@
 //! The first clash of a new block with the earlier blocks of its tensor.
 ghost use Rattle.std.specs.Prelude.{◌≡◌, if◌then◌else◌, None, nat_eq};
-ghost use Rattle.std.specs.List.{AllByRecursion};
 ghost use Rattle.layout.specs.Layouts.{Layout};
 ghost use Rattle.translation.specs.Laws.{Lawful};
 ghost use Rattle.overlap.specs.Clashes.{Orderly, first_clash, first_that, stored_at};
 ghost use Rattle.overlap.specs.Rows.{earlier as earlier_of, old_row, shared_by};
 
+use crate::blocks::EarlierBlocks;
 use crate::merge::first_shared;
 use crate::row::{NewRow, OldRow, Row};
 use layout::catalogue::Catalogue;
@@ -36,35 +36,30 @@ fn entry_clash<R: Row>(row: &R, entry: BlockEntry, indices: &[i32], tensor: usiz
 }
 
 /// The first place of a row where one of the blocks of the tensor went.
-fn clash_among<R: Row>(
-    row: &R,
-    blocks: &[BlockEntry],
-    indices: &[i32],
-    tensor: usize,
-) -> Option<usize>
-    requires { AllByRecursion (λ e. Orderly e.read indices.now) blocks.now }
-    ensures { result ≡ first_that (λ k. stored_at blocks.now indices.now tensor ((R.places row.now).at k)) (R.places row.now).many }
+fn clash_among<R: Row>(row: &R, earlier_blocks: &EarlierBlocks, tensor: usize) -> Option<usize>
+    ensures { result ≡ first_that (λ k. stored_at earlier_blocks.now.blocks earlier_blocks.now.indices tensor ((R.places row.now).at k)) (R.places row.now).many }
 {
     let mut first = None;
-    for entry in blocks {
-        first = earlier(first, entry_clash(row, *entry, indices, tensor));
+    for entry in earlier_blocks.blocks {
+        first = earlier(
+            first,
+            entry_clash(row, *entry, earlier_blocks.indices, tensor),
+        );
     }
     first
 }
 
 /// The first via place of a new block whose destination an earlier block of the open tensor has
-/// stored into. The blocks and the index table are as the last call left them, and the translation
-/// is the accepted one of the new block.
+/// stored into. The earlier blocks are as the last call left them, and the translation is the
+/// accepted one of the new block.
 pub fn first_clash<C: Catalogue>(
-    blocks: &[BlockEntry],
-    indices: &[i32],
+    earlier_blocks: &EarlierBlocks,
     tensor: usize,
     translation: Translation,
     block: &Routed<C>,
 ) -> Option<usize>
-    requires lawful { (source : Layout) × Lawful source block.now.via block.now.start block.now.target translation }
-    requires orderly { AllByRecursion (λ e. Orderly e.read indices.now) blocks.now }
-    ensures { result ≡ first_clash blocks.now indices.now tensor block.now.via block.now.start block.now.target }
+    requires { (source : Layout) × Lawful source block.now.via block.now.start block.now.target translation }
+    ensures { result ≡ first_clash earlier_blocks.now.blocks earlier_blocks.now.indices tensor block.now.via block.now.start block.now.target }
 {
-    clash_among(&NewRow::new(translation, block), blocks, indices, tensor)
+    clash_among(&NewRow::new(translation, block), earlier_blocks, tensor)
 }

@@ -1,9 +1,8 @@
 //! The refusals of a block by itself, in their order.
 ghost use Rattle.std.specs.Prelude.{◌≡◌, List, IfOk, Ok, slice_index_or, Float};
-ghost use Rattle.std.specs.List.{AllByRecursion};
 ghost use Rattle.layout.specs.Layouts.{AllValid, blank};
 ghost use Rattle.translation.specs.Laws.{LawfulIn};
-ghost use Rattle.overlap.specs.Clashes.{Orderly, first_clash as first_clash_of};
+ghost use Rattle.overlap.specs.Clashes.{first_clash as first_clash_of};
 ghost use Rattle.translation.specs.Outcome.{translated};
 ghost use Rattle.records.specs.declared.counts.Counts.{Counts};
 ghost use Rattle.records.specs.declared.record.BinaryRecord.{BinaryRecord};
@@ -20,8 +19,9 @@ use layout::catalogue::Catalogue;
 use names::check::expression_fault;
 use names::scope::{Block, Scope};
 use names::variable::{VariableRecord, is_constant};
+use overlap::blocks::EarlierBlocks;
 use overlap::clash::first_clash;
-use records::record::{BlockEntry, TensorRecord};
+use records::record::TensorRecord;
 use translation::kinds::{Translation, TranslationTo};
 use translation::route::Route;
 
@@ -61,12 +61,11 @@ pub struct Target {
     pub tensor: TensorRecord,
 }
 
-/// What the last call left of blocks and variables, and of the index table.
-#[derive(Clone, Copy)]
+/// What the last call left of blocks and variables.
+#[derive(Drop)]
 pub struct Recorded<'a> {
-    pub blocks: &'a [BlockEntry],
+    pub earlier: EarlierBlocks<'a>,
     pub variables: &'a [VariableRecord],
-    pub indices: &'a [i32],
 }
 
 /// The expression may stand in a block of a tensor.
@@ -98,29 +97,21 @@ fn check_expression<C: Catalogue>(
 fn find_clash<C: Catalogue>(
     c: &C,
     number: usize,
-    recorded: &Recorded,
+    earlier: &EarlierBlocks,
     route: Route,
     translation: Translation,
 ) -> Option<usize>
     requires accepted { translated (C.layouts c.now) route.source route.via route.start route.target ≡ Ok translation }
     requires lawful { LawfulIn (C.layouts c.now) route.source route.via route.start route.target translation }
-    requires orderly { AllByRecursion (λ e. Orderly e.read recorded.now.indices.now) recorded.now.blocks.now }
-    ensures { result ≡ first_clash_of recorded.now.blocks.now recorded.now.indices.now number (slice_index_or (C.layouts c.now) route.via blank) route.start (slice_index_or (C.layouts c.now) route.target blank) }
+    ensures { result ≡ first_clash_of earlier.now.blocks earlier.now.indices number (slice_index_or (C.layouts c.now) route.via blank) route.start (slice_index_or (C.layouts c.now) route.target blank) }
 {
     match route.in_catalogue(c) {
-        Ok(block) => first_clash(
-            recorded.blocks,
-            recorded.indices,
-            number,
-            translation,
-            &block,
-        ),
+        Ok(block) => first_clash(earlier, number, translation, &block),
         Err(_) => unreachable(),
     }
 }
 
-/// The translation of a block of a tensor, where nothing refuses the block by itself. The blocks so
-/// far are accepted ones, with their entries in the index table.
+/// The translation of a block of a tensor, where nothing refuses the block by itself.
 pub fn check_block<C: Catalogue>(
     c: &C,
     target: Target,
@@ -128,8 +119,7 @@ pub fn check_block<C: Catalogue>(
     call: BlockCall,
     nodes: &[Node],
 ) -> Result<Translation, BlockFault>
-    requires { AllByRecursion (λ e. Orderly e.read recorded.now.indices.now) recorded.now.blocks.now }
-    ensures is { (n : Counts) (ts : List TensorRecord) (ks : List BinaryRecord) (cs : List Float) → result ≡ block_checked (C.layouts c.now) (holding n ts recorded.now.blocks.now recorded.now.variables.now ks cs recorded.now.indices.now) target.number target.tensor call nodes.now }
+    ensures is { (n : Counts) (ts : List TensorRecord) (ks : List BinaryRecord) (cs : List Float) → result ≡ block_checked (C.layouts c.now) (holding n ts recorded.now.earlier.blocks recorded.now.variables.now ks cs recorded.now.earlier.indices) target.number target.tensor call nodes.now }
     ensures lawful { IfOk result (LawfulIn (C.layouts c.now) call.source call.via call.start target.tensor.layout) }
     ensures valid { AllValid (C.layouts c.now) }
 {
@@ -138,7 +128,7 @@ pub fn check_block<C: Catalogue>(
     check_letters(call.letters)?;
     let route = call.route(target.tensor.layout);
     let translation = Translation::new(c, route)?;
-    check_stored(find_clash(c, target.number, recorded, route, translation))?;
+    check_stored(find_clash(c, target.number, &recorded.earlier, route, translation))?;
     check_named(call.named, translation.to)?;
     check_expression(c, recorded.variables, target.tensor, call, nodes)?;
     Ok(translation)

@@ -8,17 +8,22 @@ use records::counts::{Counts, Room};
 pub(crate) fn is_opening_short(n: Counts, room: Room) -> bool
     ensures { result ≡ opening_short n room }
 {
-    ((room.brought.constants < n.used.constants) | (room.brought.data < n.used.data))
-        | ((room.brought.tensors < n.used.tensors) | (room.brought.variables < n.used.variables))
+    room.brought.constants < n.used.constants
+        || room.brought.data < n.used.data
+        || room.brought.tensors < n.used.tensors
+        || room.brought.variables < n.used.variables
 }
 
 /// Whether a part that a block brings is shorter than what is in use of it.
 pub(crate) fn is_block_short(n: Counts, room: Room) -> bool
     ensures { result ≡ block_short n room }
 {
-    (((room.brought.constants < n.used.constants) | (room.brought.indices < n.used.indices))
-        | ((room.brought.tensors < n.used.tensors) | (room.brought.blocks < n.used.blocks)))
-        | ((room.brought.variables < n.used.variables) | (room.brought.binaries < n.used.binaries))
+    room.brought.constants < n.used.constants
+        || room.brought.indices < n.used.indices
+        || room.brought.tensors < n.used.tensors
+        || room.brought.blocks < n.used.blocks
+        || room.brought.variables < n.used.variables
+        || room.brought.binaries < n.used.binaries
 }
 
 /// Whether so many more fit into a table or buffer of which `brought` are brought and `used` in use,
