@@ -83,7 +83,8 @@ fn open_as<C: Catalogue>(
     })
 }
 
-/// The outcome of an opening: the record of the new tensor, or the refusal.
+/// The outcome of an opening: the record of the new tensor, or the refusal. Any number may be given
+/// for a class.
 pub fn plan_opening<C: Catalogue>(
     c: &C,
     n: Counts,
