@@ -1,5 +1,5 @@
 -- Entries of the index table, part by part.
-use Rattle.std.proofs.Common.{◌≡◌, ℕ, ◌+◌, ◌*◌, ◌≤◌, List, [], ◌∷◌, ◌++◌, length, ℤ, Option, sym, refl, ap, ◌∙◌, subst, arith, length-append}
+use Rattle.std.proofs.Common.{◌≡◌, ℕ, ◌+◌, ◌*◌, ◌≤◌, List, [], ◌∷◌, ◌++◌, length, ℤ, Option, sym, refl, ap, ◌∙◌, arith, length-append}
 use Rattle.std.proofs.lemmas.List.Edits.{paste-paste}
 use Rattle.std.proofs.lemmas.List.FromFn.{length-map-range_with_len}
 use lib.Seq.{paste}
@@ -27,12 +27,6 @@ both_parts d e f xs ys at mid end room em ee en ef =
       ef ∙ ap (λ y. paste y mid ys (length ys)) ee ∙ ap (λ m. paste (paste d at xs (length xs)) m ys (length ys)) em
           ∙ paste-paste d at xs ys (length xs) (length ys) refl refl (omega arith) ∙ ap (paste d at (xs ++ ys)) (sym l),
     )
-
-pub listed : (to : TranslationTo) (d : ℕ → Option ℕ) (n : ℕ) (t new : List ℤ) (at end : ℕ) → to ≡ Listed → end ≡ at + n → new ≡ paste t at (destination_entries d n) n → (end ≡ at + length (to_entries to d n)) × (new ≡ paste t at (to_entries to d n) (length (to_entries to d n)))
-listed to d n t new at end e en ew =
-    let P : TranslationTo → Type 0 = λ to. (end ≡ at + length (to_entries to d n)) × (new ≡ paste t at (to_entries to d n) (length (to_entries to d n))) in
-    let l = destinations_long d n in
-    subst P (sym e) (omega arith, ew ∙ ap (paste t at (destination_entries d n)) (sym l))
 
 -- as many entries as are counted, where the ranges are as many as the elements
 pub from_long : (f : TranslationFrom) (s : Layout) (v n : ℕ) → ((by : ℕ) → f ≡ SparseContraction by → length (ranges v s) ≡ n) → length (from_entries f s v) ≡ from_count f n

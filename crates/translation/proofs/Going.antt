@@ -1,8 +1,7 @@
 -- Destinations, one after another.
-use Rattle.std.proofs.Common.{◌≡◌, ℕ, suc, ◌+◌, ◌-◌, ◌<◌, ◌≤◌, Bool, true, false, ◌&&◌, eqb, List, length, get_or, set, ℤ, pos, Some, None, Err, Option, unwrap_or, sym, refl, ap, ◌∙◌, arith}
-use Rattle.std.proofs.lemmas.List.Edits.{paste_more}
+use Rattle.std.proofs.Common.{◌≡◌, ℕ, suc, ◌+◌, ◌-◌, ◌<◌, ◌≤◌, Bool, true, false, ◌&&◌, eqb, List, length, get_or, take, set, ℤ, pos, Some, None, Err, Option, unwrap_or, sym, refl, ap, ◌∙◌, arith}
+use Rattle.std.proofs.lemmas.List.{take_more, take_more_set}
 use Rattle.std.proofs.lemmas.List.FromFn.{length-map-range_with_len, get_or-map-range_with_len}
-use lib.Seq.{paste}
 use Rattle.translation.specs.Tos.{missing, follows, consecutive, placed, missing_at, unless_missing, to_of, destination_entries}
 
 pub missing_more : (d : ℕ → Option ℕ) (k n x : ℕ) → k < n → d k ≡ Some x → missing d k (n - k) ≡ missing d (k + 1) (n - (k + 1))
@@ -62,10 +61,12 @@ module _ (d : ℕ → Option ℕ) (n : ℕ) where
     pub going_none : k < n → d k ≡ None → Err k ≡ to_of d n
     going_none h e = let f = g.none_yet ∙ missing_here d k n h e in ap (λ o. unless_missing o (placed (consecutive d 0 (n - 1)) (d 0) n)) (sym f)
 
--- a destination is written
-pub destination_written : (d : ℕ → Option ℕ) (n : ℕ) (t table new : List ℤ) (at k : ℕ) → table ≡ paste t at (destination_entries d n) k → k < n → at + n ≤ length t → new ≡ set table (at + k) (pos (unwrap_or (d k) 0)) → new ≡ paste t at (destination_entries d n) (k + 1)
-destination_written d n t table new at k e h room is =
-    let l = length-map-range_with_len (λ k. pos (unwrap_or (d k) 0)) 0 n in
-    let v : get_or (destination_entries d n) k (pos 0) ≡ pos (unwrap_or (d k) 0) = get_or-map-range_with_len (λ k. pos (unwrap_or (d k) 0)) 0 n k k (pos 0) h (omega arith) in
-    let m = paste_more t at (destination_entries d n) k (pos 0) (omega arith) (omega arith) in
+-- one more destination is written
+pub destination_more : (d : ℕ → Option ℕ) (n : ℕ) (t : List ℤ) (k : ℕ) (v : ℤ) → k < length t → k < n → v ≡ pos (unwrap_or (d k) 0) → take k t ≡ take k (destination_entries d n) → take (k + 1) (set t k v) ≡ take (k + 1) (destination_entries d n)
+destination_more d n t k v h m e so_far =
+    let f = λ (k : ℕ). pos (unwrap_or (d k) 0) in
+    let l = length-map-range_with_len f 0 n in
+    let w : get_or (destination_entries d n) k (pos 0) ≡ f k = get_or-map-range_with_len f 0 n k k (pos 0) m (omega arith) in
+    let a = take_more_set t k v h in
+    let b = take_more (destination_entries d n) k (pos 0) (omega arith) in
     cc

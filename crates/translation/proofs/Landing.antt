@@ -34,13 +34,6 @@ told_alike l x y v h =
     let f : inside (rank l) s x ≡ inside (rank l) s y = cc in
     strict_by_inside l x v ∙ ap (λ o. number_of o l.places) f ∙ sym (strict_by_inside l y v)
 
-pub index_low : (p : Place) (i : ℕ) → pos 0 ≤ℤ get_or (index_of p) i (pos 0)
-index_low p zero = omega (arith, ints)
-index_low p (suc zero) = omega (arith, ints)
-index_low p (suc (suc zero)) = omega (arith, ints)
-index_low p (suc (suc (suc zero))) = omega (arith, ints)
-index_low p (suc (suc (suc (suc i)))) = omega (arith, ints)
-
 pub index_high : (p : Place) → Small p → (i : ℕ) → get_or (index_of p) i (pos 0) <ℤ pos 4096
 index_high p s zero = let h = s.a< in omega (arith, ints)
 index_high p s (suc zero) = let h = s.b< in omega (arith, ints)

@@ -89,7 +89,11 @@ fn write_to<C: Catalogue>(
 {
     match to {
         TranslationTo::Contiguous { .. } => at,
-        TranslationTo::Listed => write_destinations(block, table, at),
+        TranslationTo::Listed => {
+            let end = at + block.via.count();
+            write_destinations(block, &mut table[at..end]);
+            end
+        }
     }
 }
 

@@ -1,6 +1,5 @@
 //! Where the elements of a block go.
 ghost use Rattle.std.specs.Prelude.{◌≡◌, ◌+◌, ◌<◌, ◌≤◌, length, pos, IfSome};
-ghost use Rattle.std.proofs.Math.Seq.{paste};
 ghost use Rattle.std.specs.Option.{unwrap_or};
 ghost use Rattle.layout.specs.Layouts.{Valid, strict, count as place_count};
 ghost use Rattle.translation.specs.Tos.{destination as destination_of, to_of, unless_nowhere, destination_entries};
@@ -60,21 +59,14 @@ impl TranslationTo {
     }
 }
 
-/// Appends each destination, and answers where the entries end.
-pub(crate) fn write_destinations<C: Catalogue>(
-    block: &Routed<C>,
-    table: &mut [i32],
-    at: usize,
-) -> usize
-    requires { at + place_count block.now.via ≤ length table.old }
-    ensures end { result ≡ at + place_count block.now.via }
-    ensures written { table.new ≡ paste table.old at (destination_entries (destination_of block.now.via block.now.start block.now.target) (place_count block.now.via)) (place_count block.now.via) }
+/// Writes each destination.
+pub(crate) fn write_destinations<C: Catalogue>(block: &Routed<C>, table: &mut [i32])
+    requires { length table.old ≡ place_count block.now.via }
+    ensures { table.new ≡ destination_entries (destination_of block.now.via block.now.start block.now.target) (place_count block.now.via) }
 {
-    let count = block.via.count();
-    for k in 0..count {
-        table[at + k] = entry(destination(block, k));
+    for (k, place) in table.iter_mut().enumerate() {
+        *place = entry(destination(block, k));
     }
-    at + count
 }
 
 /// A destination as an entry of the index table.
