@@ -43,10 +43,9 @@ fn node_counts(rt: HostRuntime) {
 
 // Numbers in front, one more than the operators behind them.
 fn summed(nodes: &mut [Node]) -> bool {
-    for i in 0..nodes.len() / 2 + 1 {
-        if i < nodes.len() {
-            nodes[i] = ONE;
-        }
+    let numbers = nodes.len() / 2 + 1;
+    for node in nodes.iter_mut().take(numbers) {
+        *node = ONE;
     }
     is_well_formed(nodes)
 }
