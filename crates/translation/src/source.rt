@@ -1,5 +1,5 @@
 //! What is made of a block's source.
-ghost use Rattle.std.specs.Prelude.{◌≡◌, ◌<◌, ◌≤◌, IfSome};
+ghost use Rattle.std.specs.Prelude.{◌≡◌, ◌<◌, ◌≤◌, IfSome, slice_index};
 ghost use Rattle.layout.specs.Layouts.{rank};
 ghost use Rattle.layout.specs.Answers.{shape_of};
 ghost use Rattle.grouping.specs.Keys.{tail_size as tail_size_rule};
@@ -25,6 +25,13 @@ fn tail_size<C: Catalogue>(layout: &LayoutRef<C>, m: usize) -> usize
     }
 }
 
+/// The length that the axes of a diagonal layout have.
+fn diagonal_length<C: Catalogue>(diagonal: &LayoutRef<C>) -> usize
+    ensures { result ≡ slice_index (shape_of diagonal.now).lengths 0 }
+{
+    diagonal.shape().lengths[0]
+}
+
 fn contraction<C: Catalogue>(source: &LayoutRef<C>, via_rank: usize) -> TranslationFrom
     requires { via_rank < rank source.now }
     ensures { result ≡ contracted source.now.kind (shape_of source.now) via_rank }
@@ -38,7 +45,7 @@ fn contraction<C: Catalogue>(source: &LayoutRef<C>, via_rank: usize) -> Translat
         },
         LayoutKind::Diagonal if via_rank == 0 => TranslationFrom::DenseContraction {
             contract_by,
-            contract_len: shape.lengths[0],
+            contract_len: diagonal_length(source),
         },
         LayoutKind::Diagonal => TranslationFrom::DiagonalContraction { contract_by },
         LayoutKind::Sparse => TranslationFrom::SparseContraction { contract_by },
@@ -74,7 +81,7 @@ fn broadcast<C: Catalogue>(
         }),
         LayoutKind::Diagonal => Some(TranslationFrom::Broadcast {
             broadcast_by,
-            broadcast_len: shape.lengths[0],
+            broadcast_len: diagonal_length(via),
         }),
         LayoutKind::Sparse => None,
     }

@@ -79,10 +79,8 @@ fn translate<C: Catalogue>(block: &Routed<C>) -> Result<Translation, Translation
     if is_refused(via_rank, block.start, target_rank) {
         return Err(TranslationFault::Start);
     }
-    match from_shapes(&block.source, &block.via) {
-        Some(from) => translate_by(from, block),
-        None => Err(TranslationFault::NoTranslation),
-    }
+    let from = from_shapes(&block.source, &block.via).ok_or(TranslationFault::NoTranslation)?;
+    translate_by(from, block)
 }
 
 /// Whether the ranges of a sparse contraction are as many as the via's places.
