@@ -25,20 +25,6 @@ pub record Going (d : ℕ → Option ℕ) (n k first last : ℕ) (together : Boo
   pub so_far : consecutive d 0 (n - 1) ≡ (together && consecutive d (k - 1) (n - k))
 
 module _ (d : ℕ → Option ℕ) (n : ℕ) where
-  pub going_first : (x : ℕ) → 1 ≤ n → d 0 ≡ Some x → x < 65536 → Going d n 1 x x true
-  going_first x h e l = record {
-    some = omega arith;
-    low = l;
-    high = l;
-    begun = e;
-    last_is = e;
-    none_yet = (let z : n - 0 ≡ n = omega arith in ap (missing d 0) (sym z) ∙ missing_more d 0 n x h e);
-    so_far = refl;
-  }
-
-  pub to_none : 1 ≤ n → d 0 ≡ None → Err 0 ≡ to_of d n
-  to_none h e = let z : n - 0 ≡ n = omega arith in let f : missing d 0 n ≡ Some 0 = ap (missing d 0) (sym z) ∙ missing_here d 0 n h e in ap (λ o. unless_missing o (placed (consecutive d 0 (n - 1)) (d 0) n)) (sym f)
-
   module _ (k first last : ℕ) (together : Bool) (g : Going d n k first last together) where
     pub going_more : (x : ℕ) → k < n → d k ≡ Some x → x < 65536 → Going d n (k + 1) first x (together && eqb x (last + 1))
     going_more x h e l =

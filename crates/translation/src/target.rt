@@ -1,7 +1,8 @@
 //! Where the elements of a block go.
-ghost use Rattle.std.specs.Prelude.{◌≡◌, ◌+◌, ◌<◌, ◌≤◌, length, pos, IfSome};
+ghost use Rattle.std.specs.Prelude.{◌≡◌, ◌+◌, ◌<◌, ◌≤◌, length, pos, Some, None, IfSome, IfOk, MatchResult};
 ghost use Rattle.std.specs.Option.{unwrap_or};
 ghost use Rattle.layout.specs.Layouts.{Valid, strict, count as place_count};
+ghost use Rattle.translation.specs.declared.kinds.TranslationFault.TheVariants.{NoDestination};
 ghost use Rattle.translation.specs.Tos.{destination as destination_of, to_of, unless_nowhere, destination_entries};
 
 use crate::kinds::{TranslationFault, TranslationTo};
@@ -30,21 +31,27 @@ pub fn destination<C: Catalogue>(block: &Routed<C>, k: usize) -> Option<usize>
     number_in(&block.target, shifted(block.start, place))
 }
 
+/// The destination of place `k`, refused where there is none.
+fn landing<C: Catalogue>(block: &Routed<C>, k: usize) -> Result<usize, TranslationFault>
+    ensures is { MatchResult result
+        (λ n. destination_of block.now.via block.now.start block.now.target k ≡ Some n)
+        (λ f. (f ≡ NoDestination k) × (destination_of block.now.via block.now.start block.now.target k ≡ None)) }
+    ensures within { IfOk result (λ n. n < 65536) }
+{
+    destination(block, k).ok_or(TranslationFault::NoDestination { place: k })
+}
+
 impl TranslationTo {
     /// Where the places of a via go; refused at the first that goes nowhere.
     pub(crate) fn new<C: Catalogue>(block: &Routed<C>) -> Result<TranslationTo, TranslationFault>
         ensures { result ≡ unless_nowhere (to_of (destination_of block.now.via block.now.start block.now.target) (place_count block.now.via)) }
     {
         let count = block.via.count();
-        let Some(first) = destination(block, 0) else {
-            return Err(TranslationFault::NoDestination { place: 0 });
-        };
+        let first = landing(block, 0)?;
         let mut last = first;
         let mut together = true;
         for k in 1..count {
-            let Some(next) = destination(block, k) else {
-                return Err(TranslationFault::NoDestination { place: k });
-            };
+            let next = landing(block, k)?;
             together = together & (next == last + 1);
             last = next;
         }
