@@ -46,8 +46,7 @@ impl BlockRecord {
         if !has_room(table.len().min(INDEX_LIMIT), at, t.data_len()) {
             return Err(TranslationFault::Short);
         }
-        // There is room, so this refuses nothing.
-        let _ = to_data_layout(catalogue, t, route, table, at);
+        to_data_layout(catalogue, t, route, table, at)?;
         Ok(record_of(t, &block, at))
     }
 }

@@ -8,7 +8,8 @@ use layout::catalogue::Catalogue;
 use layout::index::Index;
 use layout::layout_ref::LayoutRef;
 
-/// Whether the first `n` entries of two indices are the same.
+/// Whether the first `n` entries of two indices are the same. Apart from `agree`, whose proof the
+/// check does not find alone.
 #[tactic(auto, using(crate::proofs::Fronts::fronts_decide))]
 fn same_front(n: usize, p: Index, q: Index) -> bool
     requires { n ≤ 4 }
