@@ -9,9 +9,10 @@ use crate::blocks::EarlierBlocks;
 use crate::merge::first_shared;
 use crate::row::{NewRow, OldRow, Row};
 use layout::catalogue::Catalogue;
+use layout::index::Index;
+use layout::layout_ref::LayoutRef;
 use records::record::BlockEntry;
 use translation::kinds::Translation;
-use translation::route::Routed;
 
 /// The earlier of two via places, where there are any.
 fn earlier(a: Option<usize>, b: Option<usize>) -> Option<usize>
@@ -56,10 +57,16 @@ pub fn first_clash<C: Catalogue>(
     earlier_blocks: &EarlierBlocks,
     tensor: usize,
     translation: Translation,
-    block: &Routed<C>,
+    via: &LayoutRef<C>,
+    start: Index,
+    target: &LayoutRef<C>,
 ) -> Option<usize>
-    requires { (source : Layout) × Lawful source block.now.via block.now.start block.now.target translation }
-    ensures { result ≡ first_clash earlier_blocks.now.blocks earlier_blocks.now.indices tensor block.now.via block.now.start block.now.target }
+    requires { (source : Layout) × Lawful source via.now start target.now translation }
+    ensures { result ≡ first_clash earlier_blocks.now.blocks earlier_blocks.now.indices tensor via.now start target.now }
 {
-    clash_among(&NewRow::new(translation, block), earlier_blocks, tensor)
+    clash_among(
+        &NewRow::new(translation, via, start, target),
+        earlier_blocks,
+        tensor,
+    )
 }

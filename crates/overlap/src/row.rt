@@ -7,10 +7,11 @@ ghost use Rattle.reader.specs.Accepted.{Spanned};
 ghost use Rattle.overlap.specs.Rows.{Places, Going, Lined, Running, new_row, old_row};
 
 use layout::catalogue::Catalogue;
+use layout::index::Index;
+use layout::layout_ref::LayoutRef;
 use reader::record::BlockRecord;
 use std::marker::Model;
 use translation::kinds::{Translation, TranslationTo};
-use translation::route::Routed;
 use translation::target::destination;
 
 /// A row of places, of which each is above the one before it.
@@ -38,30 +39,39 @@ pub(crate) trait Row {
 pub(crate) struct NewRow<'a, C: Catalogue> {
     to: TranslationTo,
     count: usize,
-    block: &'a Routed<'a, C>,
+    via: &'a LayoutRef<'a, C>,
+    start: Index,
+    target: &'a LayoutRef<'a, C>,
 }
 
 impl<'a, C: Catalogue> Model for NewRow<'a, C> {
     ghost Value = { Going };
 
-    ghost view = { λ r. record { to = r.to; count = r.count; via = r.block.now.via; start = r.block.now.start; target = r.block.now.target } };
+    ghost view = { λ r. record { to = r.to; count = r.count; via = r.via.now; start = r.start; target = r.target.now } };
 
-    ghost invariant = { λ r. (0 < r.count) × Lined (new_row (record { to = r.to; count = r.count; via = r.block.now.via; start = r.block.now.start; target = r.block.now.target })) };
+    ghost invariant = { λ r. (0 < r.count) × Lined (new_row (record { to = r.to; count = r.count; via = r.via.now; start = r.start; target = r.target.now })) };
 }
 
 impl<'a, C: Catalogue> NewRow<'a, C> {
     /// Where a block goes by its accepted translation.
-    pub(crate) fn new(translation: Translation, block: &'a Routed<'a, C>) -> NewRow<'a, C>
-        requires { (source : Layout) × Lawful source block.now.via block.now.start block.now.target translation }
-        ensures { result ≡ record { to = translation.to; count = translation.elements; via = block.now.via; start = block.now.start; target = block.now.target } }
+    pub(crate) fn new(
+        translation: Translation,
+        via: &'a LayoutRef<'a, C>,
+        start: Index,
+        target: &'a LayoutRef<'a, C>,
+    ) -> NewRow<'a, C>
+        requires { (source : Layout) × Lawful source via.now start target.now translation }
+        ensures { result ≡ record { to = translation.to; count = translation.elements; via = via.now; start = start; target = target.now } }
     {
         // The counts say that both layouts are valid.
-        let _ = block.via.count();
-        let _ = block.target.count();
+        let _ = via.count();
+        let _ = target.count();
         NewRow {
             to: translation.to,
             count: translation.elements as usize,
-            block,
+            via,
+            start,
+            target,
         }
     }
 }
@@ -76,7 +86,9 @@ impl<'a, C: Catalogue> Row for NewRow<'a, C> {
     fn place(&self, k: usize) -> usize {
         match self.to {
             TranslationTo::Contiguous { start, .. } => start + k,
-            TranslationTo::Listed => destination(self.block, k).unwrap_or(0),
+            TranslationTo::Listed => {
+                destination(self.via, self.start, self.target, k).unwrap_or(0)
+            }
         }
     }
 

@@ -106,7 +106,14 @@ fn find_clash<C: Catalogue>(
     ensures { result ≡ first_clash_of earlier.now.blocks earlier.now.indices number (slice_index_or (C.layouts c.now) route.via blank) route.start (slice_index_or (C.layouts c.now) route.target blank) }
 {
     match route.in_catalogue(c) {
-        Ok(block) => first_clash(earlier, number, translation, &block),
+        Ok(block) => first_clash(
+            earlier,
+            number,
+            translation,
+            &block.via,
+            block.start,
+            &block.target,
+        ),
         Err(_) => unreachable(),
     }
 }

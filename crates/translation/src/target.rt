@@ -23,12 +23,17 @@ fn number_in<C: Catalogue>(target: &LayoutRef<C>, index: Index) -> Option<usize>
 }
 
 /// The target's place for place `k` of the via: start plus place, looked up strictly.
-pub fn destination<C: Catalogue>(block: &Routed<C>, k: usize) -> Option<usize>
-    ensures is { result ≡ destination_of block.now.via block.now.start block.now.target k }
+pub fn destination<C: Catalogue>(
+    via: &LayoutRef<C>,
+    start: Index,
+    target: &LayoutRef<C>,
+    k: usize,
+) -> Option<usize>
+    ensures is { result ≡ destination_of via.now start target.now k }
     ensures within { IfSome result (λ n. n < 65536) }
 {
-    let place = block.via.place_or_zeros(k);
-    number_in(&block.target, shifted(block.start, place))
+    let place = via.place_or_zeros(k);
+    number_in(target, shifted(start, place))
 }
 
 /// The destination of place `k`, refused where there is none.
@@ -38,7 +43,9 @@ fn landing<C: Catalogue>(block: &Routed<C>, k: usize) -> Result<usize, Translati
         (λ f. (f ≡ NoDestination k) × (destination_of block.now.via block.now.start block.now.target k ≡ None)) }
     ensures within { IfOk result (λ n. n < 65536) }
 {
-    destination(block, k).ok_or(TranslationFault::NoDestination { place: k })
+    destination(&block.via, block.start, &block.target, k).ok_or(TranslationFault::NoDestination {
+        place: k,
+    })
 }
 
 impl TranslationTo {
@@ -72,7 +79,7 @@ pub(crate) fn write_destinations<C: Catalogue>(block: &Routed<C>, table: &mut [i
     ensures { table.new ≡ destination_entries (destination_of block.now.via block.now.start block.now.target) (place_count block.now.via) }
 {
     for (k, place) in table.iter_mut().enumerate() {
-        *place = entry(destination(block, k));
+        *place = entry(destination(&block.via, block.start, &block.target, k));
     }
 }
 
