@@ -1,5 +1,5 @@
 //! Pictures of layouts.
-ghost use Rattle.std.specs.Prelude.{◌≡◌, ◌<◌, ◌≤◌};
+ghost use Rattle.std.specs.Prelude.{◌≡◌, ◌<◌, ◌≤◌, length};
 ghost use Rattle.layout.specs.Layouts.{rank, strict};
 ghost use Rattle.report.specs.Told.{cell_index};
 
@@ -91,7 +91,7 @@ fn put_list<C: Catalogue>(out: &mut String, layout: &LayoutRef<C>) -> Result<(),
 }
 
 /// Writes the places of a layout: up to two axes drawn, with a `.` where there is no place, and more axes listed.
-pub fn put_picture<C: Catalogue>(
+pub(crate) fn put_places<C: Catalogue>(
     out: &mut String,
     layout: &LayoutRef<C>,
 ) -> Result<(), AllocError> {
@@ -100,5 +100,15 @@ pub fn put_picture<C: Catalogue>(
         0 | 1 => put_grid(out, layout, 1, shape.lengths[0]),
         2 => put_grid(out, layout, shape.lengths[0], shape.lengths[1]),
         _ => put_list(out, layout),
+    }
+}
+
+/// Writes the places of the layout with a number, whatever the number is: nothing where there is no such layout.
+pub fn put_picture<C: Catalogue>(out: &mut String, c: &C, layout: usize) -> Result<(), AllocError>
+    ensures { length (C.layouts c.now) ≤ layout → out.new ≡ out.old }
+{
+    match LayoutRef::new(c, layout) {
+        Ok(layout) => put_places(out, &layout),
+        Err(_) => Ok(()),
     }
 }
