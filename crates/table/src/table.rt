@@ -1,7 +1,7 @@
 //! The table catalogue.
-ghost use Rattle.std.specs.Prelude.{◌≡◌, ◌<◌, ◌≤◌, length, MatchOption, MatchResult, slice_index_or};
+ghost use Rattle.std.specs.Prelude.{◌≡◌, ◌<◌, ◌≤◌, true, length, MatchOption, MatchResult, slice_index_or};
 ghost use Rattle.layout.specs.Layouts.{blank};
-ghost use Rattle.table.specs.Records.{AllKept, FirstFaulty, table_layouts};
+ghost use Rattle.table.specs.Records.{AllKept, FirstFaulty, kept as kept_rule, record_layout, table_layouts};
 
 use crate::kept_layout::KeptLayout;
 use crate::record::LayoutRecord;
@@ -20,8 +20,6 @@ pub struct Table<'a> {
 }
 
 impl<'a> Table<'a> {
-    ghost use Rattle.table.specs.Layouts.{layout_of};
-
     /// The catalogue of records that `check_records` has passed.
     pub fn new(records: &'a [LayoutRecord], pool: &'a [u16]) -> Table<'a>
         requires { AllKept pool.now records.now }
@@ -38,11 +36,12 @@ impl<'a> Table<'a> {
         Ok(Table::new(records, pool))
     }
 
-    fn layout(&self, number: usize) -> Option<KeptLayout<'a>>
-        ensures { MatchOption result (length self.now.records.now ≤ number) (λ l. (number < length self.now.records.now) × (slice_index_or (table_layouts self.now.pool.now self.now.records.now) number blank ≡ layout_of l)) }
+    /// The record with a number, which keeps the rules.
+    fn record(&self, number: usize) -> Option<LayoutRecord>
+        ensures { MatchOption result (length self.now.records.now ≤ number) (λ r. (number < length self.now.records.now) × (kept_rule self.now.pool.now r ≡ true) × (slice_index_or (table_layouts self.now.pool.now self.now.records.now) number blank ≡ record_layout self.now.pool.now r)) }
     {
         let record = self.records.get(number)?;
-        Some(KeptLayout::known(self.pool, *record))
+        Some(*record)
     }
 }
 
@@ -54,16 +53,17 @@ impl<'a> Catalogue for Table<'a> {
     }
 
     fn shape(&self, layout: usize) -> Result<Shape, LayoutFault> {
-        let layout = self.layout(layout).ok_or(LayoutFault::Unknown)?;
-        Ok(layout.shape())
+        let record = self.record(layout).ok_or(LayoutFault::Unknown)?;
+        Ok(KeptLayout::known(self.pool, record).shape())
     }
 
     fn place(&self, layout: usize, number: usize) -> Option<Index> {
-        self.layout(layout)?.place(number)
+        let record = self.record(layout)?;
+        KeptLayout::known(self.pool, record).place(number)
     }
 
     fn number(&self, layout: usize, index: Index) -> Result<Option<usize>, LayoutFault> {
-        let layout = self.layout(layout).ok_or(LayoutFault::Unknown)?;
-        Ok(layout.number(index))
+        let record = self.record(layout).ok_or(LayoutFault::Unknown)?;
+        Ok(KeptLayout::known(self.pool, record).number(index))
     }
 }

@@ -1,14 +1,12 @@
--- The first entries of two indices.
-use Rattle.std.proofs.Common.{◌≡◌, ℕ, min, Bool, List, length, take, ℤ, Decides, sym, ap, ◌∙◌}
-use Rattle.std.proofs.lemmas.List.{take_min}
-use Rattle.std.proofs.lemmas.Bool.Decides.{Decides-int_eq}
-use Rattle.std.proofs.lemmas.Slice.Eq.{slice_eq-Decides}
-use Rattle.std.specs.Ordering.{int_eq}
-use lib.Pointwise.{pointwise}
+-- Lists of four elements that agree on the first m.
+use Rattle.std.proofs.Common.{◌≡◌, ℕ, ◌<◌, min, List, length, get_or, take, sym, ap, ◌∙◌, arith}
+use Rattle.std.proofs.lemmas.List.{same_lists, length-take, get_or-take, get_or_default}
 
-pub fronts_decide : (n : ℕ) (p q : List ℤ) (r : Bool) → r ≡ pointwise int_eq (take n p) (take n q) → Decides r (take n p ≡ take n q)
-fronts_decide n p q r e = slice_eq-Decides Decides-int_eq (take n p) (take n q) r e
+-- two lists of four that agree at each place below m have the same first m elements
+pub take_same : {X : Type 0} (z : X) (m : ℕ) (p q : List X) → length p ≡ 4 → length q ≡ 4 → ((k : ℕ) → k < 4 → k < m → get_or p k z ≡ get_or q k z) → take m p ≡ take m q
+take_same z m p q n n' h =
+    same_lists (take m p) (take m q) (simp length-take (omega arith))
+    (λ k d l. let l' : k < min m (length p) = simp length-take at l in let a : k < m = omega arith in let b : k < length p = omega arith in let b' : k < length q = omega arith in rw (get_or-take, get_or-take) (get_or_default p k d z b ∙ h k (omega arith) a ∙ get_or_default q k z d b'))
 
--- of four entries, the first four of m are the first m
-pub front : (m : ℕ) (xs : List ℤ) → length xs ≡ 4 → take (min m 4) xs ≡ take m xs
-front m xs four = ap (λ n. take (min m n) xs) (sym four) ∙ take_min m xs
+pub take_at_same : {X : Type 0} (m : ℕ) (p q : List X) (k : ℕ) (z : X) → k < m → take m p ≡ take m q → get_or p k z ≡ get_or q k z
+take_at_same m p q k z h e = sym (get_or-take m p k z h) ∙ ap (λ xs. get_or xs k z) e ∙ get_or-take m q k z h

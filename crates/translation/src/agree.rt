@@ -1,5 +1,5 @@
 //! Places that agree on their first entries.
-ghost use Rattle.std.specs.Prelude.{◌≡◌, ◌<◌, ◌≤◌, take, Decides};
+ghost use Rattle.std.specs.Prelude.{◌≡◌, ◌<◌, ◌≤◌, take, pos, Decides, slice_index_or};
 ghost use Rattle.layout.specs.Layouts.{rank, at, count as place_count};
 ghost use Rattle.grouping.specs.Keys.{agrees, Covered};
 ghost use Rattle.translation.specs.Cuts.{Steps};
@@ -8,21 +8,20 @@ use layout::catalogue::Catalogue;
 use layout::index::Index;
 use layout::layout_ref::LayoutRef;
 
-/// Whether the first `n` entries of two indices are the same. Apart from `agree`, whose proof the
-/// check does not find alone.
-#[tactic(auto, using(crate::proofs::Fronts::fronts_decide))]
-fn same_front(n: usize, p: Index, q: Index) -> bool
-    requires { n ≤ 4 }
-    ensures { Decides result (take n p ≡ take n q) }
+/// Whether entry `i` of two indices is the same, as far as it is among the first `m`.
+fn same_at(m: usize, p: Index, q: Index, i: usize) -> bool
+    requires { i < 4 }
+    ensures { Decides result (i < m → slice_index_or p i (pos 0) ≡ slice_index_or q i (pos 0)) }
 {
-    p[..n] == q[..n]
+    m <= i || p[i] == q[i]
 }
 
-/// Whether two indices agree on their first `m` entries.
+/// Whether two indices agree on their first `m` entries. The four are asked for one by one: slices of
+/// a length that is known only now take longer to compare.
 pub(crate) fn agree(m: usize, p: Index, q: Index) -> bool
     ensures { Decides result (take m p ≡ take m q) }
 {
-    same_front(m.min(4), p, q)
+    (0..4).all(|i| same_at(m, p, q, i))
 }
 
 /// Whether place `i` of one layout and place `j` of another agree on their first `m` entries.
