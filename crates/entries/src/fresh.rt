@@ -1,7 +1,7 @@
 //! The binary tables that a block adds.
 ghost use Rattle.std.specs.Prelude.{◌≡◌, ◌+◌, ◌<◌, ◌≤◌, ◌++◌, map, length, take};
 ghost use Rattle.expression.specs.Letterings.{letters_of};
-ghost use Rattle.entries.specs.Fresh.{has_key, keys_of, added, fresh as fresh_of};
+ghost use Rattle.entries.specs.Fresh.{same_key, has_key, keys_of, added, fresh as fresh_of};
 ghost use Rattle.entries.specs.Needed.{needed as needed_by};
 
 use crate::needed::BlockNames;
@@ -10,18 +10,32 @@ use layout::catalogue::Catalogue;
 use names::binary_table::TableKey;
 use records::record::BinaryRecord;
 
+/// Whether two tables are of the same layouts and permutation.
+fn same_table(a: &TableKey, b: &TableKey) -> bool
+    ensures { result ≡ same_key a.now b.now }
+{
+    a == b
+}
+
 /// Whether a table has a record.
 fn is_recorded(binaries: &[BinaryRecord], key: &TableKey) -> bool
     ensures { result ≡ has_key key.now (keys_of binaries.now) }
 {
-    binaries.iter().any(|record| record.key == *key)
+    binaries.iter().any(|record| same_table(&record.key, key))
+}
+
+/// Whether a table is among some.
+fn is_listed(listed: &[TableKey], key: &TableKey) -> bool
+    ensures { result ≡ has_key key.now listed.now }
+{
+    listed.iter().any(|other| same_table(other, key))
 }
 
 /// Whether a table has a record, or is listed.
 fn is_known(binaries: &[BinaryRecord], listed: &[TableKey], key: &TableKey) -> bool
     ensures { result ≡ has_key key.now (keys_of binaries.now ++ listed.now) }
 {
-    is_recorded(binaries, key) || listed.contains(key)
+    is_recorded(binaries, key) || is_listed(listed, key)
 }
 
 /// Puts a table that is needed after the first `count` of a list, unless it is known, and counts them.

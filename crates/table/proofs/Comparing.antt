@@ -53,3 +53,7 @@ pub compared : (p q : List ℕ) → length p ≡ 4 → length q ≡ 4 → MatchO
 compared p q m n =
     let is : slice_cmp nat_cmp (entries (place_of p)) (entries (place_of q)) ≡ slice_cmp nat_cmp p q = cc (as_entries p m, as_entries q n) in
     subst (λ r. MatchOrdering r (Before (place_of p) (place_of q)) (place_of p ≡ place_of q) (Before (place_of q) (place_of p))) is (of_places (place_of p) (place_of q))
+
+-- what the library's comparison of four entries answers, of their places
+pub compared_as : (p q : List ℕ) (r : Ordering) → r ≡ slice_cmp nat_cmp p q → length p ≡ 4 → length q ≡ 4 → MatchOrdering r (Before (place_of p) (place_of q)) (place_of p ≡ place_of q) (Before (place_of q) (place_of p))
+compared_as p q r is m n = subst (λ r. MatchOrdering r (Before (place_of p) (place_of q)) (place_of p ≡ place_of q) (Before (place_of q) (place_of p))) (sym is) (compared p q m n)

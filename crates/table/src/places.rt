@@ -9,6 +9,7 @@ use grid::shapes::GridShape;
 use std::cmp::Ordering;
 
 /// The order of two places: that of the first entries that differ.
+#[tactic(auto, using(crate::proofs::Comparing::compared_as))]
 fn compare(p: [usize; 4], q: [usize; 4]) -> Ordering
     ensures { MatchOrdering result (Before (place_of p) (place_of q)) (place_of p ≡ place_of q) (Before (place_of q) (place_of p)) }
 {
