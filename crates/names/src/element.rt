@@ -5,7 +5,7 @@ ghost use Rattle.expression.specs.Letterings.{letters_of, position};
 ghost use Rattle.names.specs.Reading.{dense_entry as dense_entry_of, dense_index as dense_index_of, dense_element as dense_element_of, permuted as permuted_index, table_element as table_element_of, permutation as permutation_of, element as element_of};
 
 use crate::layout_or_scalar::LayoutOrScalar;
-use crate::permutation::Permutation;
+use crate::permutation::letters_permuted;
 use expression::letters::{meant, position_of};
 use expression::node::Letters;
 use layout::catalogue::Catalogue;
@@ -75,8 +75,8 @@ impl LetteredPlace {
         ensures { result ≡ table_element_of layout.now (permutation_of (rank_of layout.now) (letters_of self.now.letters) (letters_of name)) self.now.index }
     {
         let rank = layout.shape().rank;
-        let permutation = Permutation::new(rank, self.letters, name);
-        layout.find_nnz_index(permuted(rank, permutation.meant(), self.index))
+        let slots = letters_permuted(rank, self.letters, name);
+        layout.find_nnz_index(permuted(rank, slots.as_slice(), self.index))
     }
 
     /// The element of its layout that a name reads, if there is one.

@@ -1,5 +1,6 @@
 //! The value of an expression at a source place.
-ghost use Rattle.std.specs.Prelude.{◌≡◌, true, Ok, length, slice_index_or};
+ghost use Rattle.std.specs.Prelude.{◌≡◌, ◌<◌, ◌≤◌, true, [], ◌∷◌, ◌++◌, Ok, length, take, slice_index_or};
+ghost use Rattle.arrayvec.specs.ArrayVec.{array_vec_len};
 ghost use Rattle.layout.specs.Layouts.{blank, count as count_of, rank as rank_of};
 ghost use Rattle.expression.specs.Letterings.{letters_of};
 ghost use Rattle.expression.specs.Nodes.{takes, well_formed};
@@ -49,6 +50,23 @@ fn value_of_node<C: Catalogue, H: Host>(
     }
 }
 
+/// Puts a value in the place of those from `low` on.
+fn put_from(stack: &mut ArrayVec<f64, 32>, low: usize, value: f64)
+    requires within { low ≤ array_vec_len stack.old }
+    requires room { low < 32 }
+    ensures { stack.new.items ≡ take low stack.old.items ++ value ∷ [] }
+{
+    match stack.get_mut(low) {
+        Some(first) => {
+            *first = value;
+            while stack.len() > low + 1 {
+                stack.pop();
+            }
+        },
+        None => stack.push(value),
+    }
+}
+
 /// The value of nodes in postfix order, on a stack of 32 values.
 fn run<C: Catalogue, H: Host>(
     host: &H,
@@ -64,8 +82,7 @@ fn run<C: Catalogue, H: Host>(
         let value = value_of_node(host, reading, *node, &stack.as_slice()[low..]).ok_or(
             ExpressionFault::NoHostValue { node: i },
         )?;
-        stack.truncate(low);
-        stack.push(value);
+        put_from(&mut stack, low, value);
     }
     Ok(stack.as_slice()[0])
 }

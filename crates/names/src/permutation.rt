@@ -8,7 +8,7 @@ ghost use Rattle.expression.specs.Letterings.{letters_of, among};
 ghost use Rattle.names.specs.Reading.{slots_of, packed as packed_of, slot as slot_of, permutation as permutation_of};
 
 use arrayvec::ArrayVec;
-use expression::letters::{is_among, meant, position_of};
+use expression::letters::{meant, position_of};
 use expression::node::Letters;
 
 /// A slot of the name for each entry of a source place: the slots before `count` are meant. A plain
@@ -70,8 +70,9 @@ fn packed(slots: &[usize]) -> Permutation
 fn slot(rank: usize, name: &[u8], letter: u8) -> usize
     ensures { result ≡ slot_of rank name.now letter }
 {
-    if is_among(letter, name) {
-        position_of(letter, name)
+    let position = position_of(letter, name);
+    if position < name.len() {
+        position
     } else {
         rank
     }
@@ -83,13 +84,13 @@ fn push_foreign(slots: &mut ArrayVec<usize, 8>, block: &[u8], letter: u8, positi
     ensures slots { slots.new.items ≡ (if among letter block.now then slots.old.items else slots.old.items ++ position ∷ []) }
     ensures count { array_vec_len slots.new ≤ array_vec_len slots.old + 1 }
 {
-    if !is_among(letter, block) {
+    if position_of(letter, block) == block.len() {
         slots.push(position);
     }
 }
 
 /// The slots of letters under a block's.
-fn letters_permuted(rank: usize, block: Letters, name: Letters) -> ArrayVec<usize, 8>
+pub(crate) fn letters_permuted(rank: usize, block: Letters, name: Letters) -> ArrayVec<usize, 8>
     ensures { result.items ≡ permutation_of rank (letters_of block) (letters_of name) }
 {
     let block = meant(&block);

@@ -13,7 +13,7 @@ loop-i-preserved g c =
     let v = c.in_ok-value.value in
     let f = node_value (g.H.Host.answers c.args.host.now) (read_from c.args.reading.now) in
     let t = c.values_taken.result in
-    let is : c.push.new.self.items ≡ take (length s - t) s ++ v ∷ [] = cc in
+    let is : c.put_from.new.stack.items ≡ take (length s - t) s ++ v ∷ [] = cc in
     let n = get_or c.args.nodes.now c.loop-i.i (Number nan) in
     let a = c.as_slice.result.now in
     let low = c.len.result - t in
@@ -21,6 +21,6 @@ loop-i-preserved g c =
     let end = end_of s (length s - t) in
     let there : take (length a - low) (drop low a) ≡ drop (length s - t) s = cc in
     record {
-      sound = sound_more c.args.nodes.now c.loop-i.i t _ c.loop-i-test.true c.values_taken.ensures s c.push.new.self.items v is c.loop-i.invariant.sound;
-      value = value_more c.args.nodes.now c.loop-i.i t _ c.loop-i-test.true c.values_taken.ensures s c.push.new.self.items v is f (evaluated f c.args.nodes.now) (take (length a - low) (drop low a)) found there c.loop-i.invariant.value;
+      sound = sound_more c.args.nodes.now c.loop-i.i t _ c.loop-i-test.true c.values_taken.ensures s c.put_from.new.stack.items v is c.loop-i.invariant.sound;
+      value = value_more c.args.nodes.now c.loop-i.i t _ c.loop-i-test.true c.values_taken.ensures s c.put_from.new.stack.items v is f (evaluated f c.args.nodes.now) (take (length a - low) (drop low a)) found there c.loop-i.invariant.value;
     }
