@@ -91,10 +91,7 @@ fn put_list<C: Catalogue>(out: &mut String, layout: &LayoutRef<C>) -> Result<(),
 }
 
 /// Writes the places of a layout: up to two axes drawn, with a `.` where there is no place, and more axes listed.
-pub(crate) fn put_places<C: Catalogue>(
-    out: &mut String,
-    layout: &LayoutRef<C>,
-) -> Result<(), AllocError> {
+fn put_places<C: Catalogue>(out: &mut String, layout: &LayoutRef<C>) -> Result<(), AllocError> {
     let shape = layout.shape();
     match shape.rank {
         0 | 1 => put_grid(out, layout, 1, shape.lengths[0]),

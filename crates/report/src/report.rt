@@ -1,13 +1,12 @@
 //! A report in plain words.
 use crate::answer::{Answer, Found, lookup_answer, place_answer};
 use crate::block::asked_route;
-use crate::picture::put_places;
+use crate::picture::put_picture;
 use crate::text::{first, put_joined, put_refused};
 use crate::words::{put_from_words, put_trans_words};
 use design::ask::{Ask, Entries, Question};
 use design::layout_line::LayoutLine;
 use layout::catalogue::Catalogue;
-use layout::layout_ref::LayoutRef;
 use layout::shape::Shape;
 use std::alloc::AllocError;
 
@@ -21,11 +20,11 @@ fn put_shape(out: &mut String, shape: Shape) -> Result<(), AllocError> {
 
 fn put_layout<C: Catalogue>(
     out: &mut String,
+    c: &C,
     number: usize,
     line: usize,
-    layout: &LayoutRef<C>,
+    shape: Shape,
 ) -> Result<(), AllocError> {
-    let shape = layout.shape();
     let kind = shape.kind;
     write!(out, "layout {number} (line {line}): {kind}, ")?;
     put_shape(out, shape)?;
@@ -33,7 +32,7 @@ fn put_layout<C: Catalogue>(
         1 => writeln!(out, ", 1 place")?,
         count => writeln!(out, ", {count} places")?,
     }
-    put_places(out, layout)
+    put_picture(out, c, number)
 }
 
 fn put_index(out: &mut String, index: &[i64]) -> Result<(), AllocError> {
@@ -112,8 +111,8 @@ pub fn put_report<C: Catalogue>(
     questions: &[Question],
 ) -> Result<(), AllocError> {
     for (number, line) in lines.iter().enumerate() {
-        if let Ok(layout) = LayoutRef::new(c, number) {
-            put_layout(out, number, line.line, &layout)?;
+        if let Ok(shape) = c.shape(number) {
+            put_layout(out, c, number, line.line, shape)?;
         }
     }
     for question in questions {
