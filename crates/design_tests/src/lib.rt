@@ -1,6 +1,8 @@
-//! Tests of reading designs and of reports.
+//! Tests of reading designs, of reports and of pictures.
 #![tactic(auto)]
 
+#[cfg(test)]
+mod pictures;
 #[cfg(test)]
 mod refusals;
 #[cfg(test)]

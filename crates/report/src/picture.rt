@@ -1,7 +1,7 @@
 //! Pictures of layouts.
-ghost use Rattle.std.specs.Prelude.{◌≡◌, ◌<◌, ◌≤◌, length};
+ghost use Rattle.std.specs.Prelude.{◌≡◌, ◌<◌, ◌≤◌, ◌⊎◌, ◌++◌, length, codes, string_bytes, OnOk};
 ghost use Rattle.layout.specs.Layouts.{rank, strict};
-ghost use Rattle.report.specs.Told.{cell_index};
+ghost use Rattle.report.specs.Told.{TooLarge, cell_index};
 
 use crate::text::{first, put_joined};
 use layout::catalogue::Catalogue;
@@ -64,7 +64,9 @@ fn put_grid<C: Catalogue>(
     layout: &LayoutRef<C>,
     rows: usize,
     columns: usize,
-) -> Result<(), AllocError> {
+) -> Result<(), AllocError>
+    ensures { (16 < rows) ⊎ (16 < columns) → OnOk result (string_bytes out.new ≡ string_bytes out.old ++ codes "    too large to draw\n") }
+{
     if rows > MOST_ROWS || columns > MOST_COLUMNS {
         return writeln!(out, "    too large to draw");
     }
@@ -90,8 +92,10 @@ fn put_list<C: Catalogue>(out: &mut String, layout: &LayoutRef<C>) -> Result<(),
     Ok(())
 }
 
-/// Writes the places of a layout: up to two axes drawn, with a `.` where there is no place, and more axes listed.
-fn put_places<C: Catalogue>(out: &mut String, layout: &LayoutRef<C>) -> Result<(), AllocError> {
+/// Writes the places of a layout: up to two axes drawn, with a `.` where there is no place, and more axes listed; one line that says so where it is too large to draw.
+pub fn put_picture<C: Catalogue>(out: &mut String, layout: &LayoutRef<C>) -> Result<(), AllocError>
+    ensures { TooLarge layout.now → OnOk result (string_bytes out.new ≡ string_bytes out.old ++ codes "    too large to draw\n") }
+{
     let shape = layout.shape();
     match shape.rank {
         0 | 1 => put_grid(out, layout, 1, shape.lengths[0]),
@@ -100,12 +104,16 @@ fn put_places<C: Catalogue>(out: &mut String, layout: &LayoutRef<C>) -> Result<(
     }
 }
 
-/// Writes the places of the layout with a number, whatever the number is: nothing where there is no such layout.
-pub fn put_picture<C: Catalogue>(out: &mut String, c: &C, layout: usize) -> Result<(), AllocError>
+/// Writes the picture of the layout with a number, whatever the number is: nothing where there is no such layout.
+pub fn put_picture_of<C: Catalogue>(
+    out: &mut String,
+    c: &C,
+    layout: usize,
+) -> Result<(), AllocError>
     ensures { length (C.layouts c.now) ≤ layout → out.new ≡ out.old }
 {
     match LayoutRef::new(c, layout) {
-        Ok(layout) => put_places(out, &layout),
+        Ok(layout) => put_picture(out, &layout),
         Err(_) => Ok(()),
     }
 }

@@ -1,7 +1,7 @@
 //! A report in plain words.
 use crate::answer::{Answer, Found, lookup_answer, place_answer};
 use crate::block::asked_route;
-use crate::picture::put_picture;
+use crate::picture::put_picture_of;
 use crate::text::{first, put_joined, put_refused};
 use crate::words::{put_from_words, put_trans_words};
 use design::ask::{Ask, Entries, Question};
@@ -32,7 +32,7 @@ fn put_layout<C: Catalogue>(
         1 => writeln!(out, ", 1 place")?,
         count => writeln!(out, ", {count} places")?,
     }
-    put_picture(out, c, number)
+    put_picture_of(out, c, number)
 }
 
 fn put_index(out: &mut String, index: &[i64]) -> Result<(), AllocError> {
