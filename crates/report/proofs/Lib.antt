@@ -1,2 +1,4 @@
+mod Cells
 mod Texts
 mod Sourced
+mod Pictured

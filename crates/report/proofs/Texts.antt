@@ -1,9 +1,10 @@
 -- Texts that are written item by item.
-use Rattle.std.proofs.Common.{◌≡◌, ℕ, ◌+◌, ◌<◌, List, [], ◌∷◌, ◌++◌, map, length, get_or, take, IfSome, Some, Option, sym, ap, ◌∙◌, append_assoc, append-nil, arith}
+use Rattle.std.proofs.Common.{◌≡◌, ℕ, ◌+◌, ◌<◌, List, [], ◌∷◌, ◌++◌, map, length, get_or, take, IfSome, OnOk, Some, Option, Result, sym, ap, ◌∙◌, append_assoc, append-nil, arith}
 use Rattle.std.specs.List.{range_with_len, flat_map}
 use Rattle.std.proofs.lemmas.List.FromFn.{map-range_with_len_more}
 use Rattle.std.proofs.lemmas.List.{flat_map_more, take_more}
 use Rattle.std.proofs.lemmas.Option.{MatchOption-at_some}
+use Rattle.std.proofs.lemmas.Result.{on_ok_weaker}
 use Rattle.report.specs.Facts.{separated}
 
 -- what a write of a known text leaves
@@ -21,3 +22,7 @@ joined f g x (y ∷ ys) = ap (λ l. f x ++ l) (ap (λ l. g ++ l) (joined f g y y
 pub more_counted : (f : ℕ → List ℕ) (i : ℕ) (a b c : List ℕ) → b ≡ a ++ flat_map (λ t. t) (map f (range_with_len 0 i)) → c ≡ b ++ f i → c ≡ a ++ flat_map (λ t. t) (map f (range_with_len 0 (i + 1)))
 more_counted f i a b c old new =
     new ∙ ap (λ l. l ++ f i) old ∙ flat_map_more (λ t. t) a (map f (range_with_len 0 i)) (f i) ∙ ap (λ l. a ++ flat_map (λ t. t) l) (sym (map-range_with_len_more f 0 i i (omega arith)))
+
+-- what a write that may fail leaves, after one that did not
+pub then_written : {T E : Type 0} (r : Result T E) (a b c x y : List ℕ) → b ≡ a ++ x → OnOk r (c ≡ b ++ y) → OnOk r (c ≡ a ++ (x ++ y))
+then_written r a b c x y old new = on_ok_weaker r (λ w. w ∙ ap (λ l. l ++ y) old ∙ append_assoc a x y) new

@@ -3,3 +3,4 @@ pub mod Translations
 pub mod Answers
 pub mod Runs
 pub mod Told
+pub mod Pictures

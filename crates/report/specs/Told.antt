@@ -1,9 +1,8 @@
 -- What questions are answered, given the layouts that they are asked of.
-use Rattle.std.specs.Prelude.{ℕ, ◌<◌, ◌⊎◌, cond, List, [], ◌∷◌, ℤ, pos, Some, None, Ok, Err, Option, Result, nat_lt}
+use Rattle.std.specs.Prelude.{ℕ, cond, List, [], ◌∷◌, ℤ, pos, Some, None, Ok, Err, Option, Result, nat_lt}
 use Rattle.layout.specs.declared.fault.LayoutFault.{LayoutFault}
 use Rattle.layout.specs.Answers.{asked, index_of, number_asked, wide_asked}
 use Rattle.layout.specs.Layouts.{Layout, count, rank, at}
-use Rattle.layout.specs.Places.{axis}
 use Rattle.report.specs.declared.answer.Found.{Found}
 use Rattle.report.specs.declared.answer.Found.TheVariants.{Number, Place}
 use Rattle.design.specs.declared.ask.Lookup.{Lookup}
@@ -27,7 +26,3 @@ place_told ls n k = asked (λ l. place_found l k) ls n
 -- the index of a cell of a picture of up to two axes: a picture of one axis has one row
 abbrev pub cell_index : ℕ → ℕ → ℕ → List ℤ
 cell_index rank row column = cond (nat_lt rank 2) (pos column ∷ pos 0 ∷ pos 0 ∷ pos 0 ∷ []) (pos row ∷ pos column ∷ pos 0 ∷ pos 0 ∷ [])
-
--- a layout of up to two axes whose picture has more than 16 rows or columns
-abbrev pub TooLarge : Layout → Type 0
-TooLarge l = (rank l < 3) × ((16 < axis l.shape 0) ⊎ (16 < axis l.shape 1))
